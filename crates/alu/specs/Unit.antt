@@ -1,0 +1,69 @@
+-- The arithmetic unit: each computational instruction's value and flags, from the words in the destination and in the source register.
+-- The sentences quoted are those of the source's alphabetical list.
+use mathlib.Core.Bool.{Bool, false, cond, xor, _&&_}
+use Prim.Native.Nat.{ℕ, _+_, _%_, _^_}
+use lib.Dec.{ltb, leb, eqb}
+use Rattle.word.specs.Word.{plusAt, minusAt}
+use Rattle.word.specs.Bits.{bitAt, andAt, orAt, xorAt, notAt, revAt, shlAt, shrAt, shraAt}
+use Rattle.word.specs.Signed.{sumOverflows, differenceOverflows, signedAtMost, signedBelow}
+use Rattle.alu.specs.declared.Answer.{Answer}
+use Rattle.alu.specs.declared.AluOp.{AluOp}
+use Rattle.alu.specs.declared.AluOp.the-variants.{Add, And, Dec1, Dec2, Inc1, Inc2, Not, Or, Rev, Shl, Shr, Shra, Sub, Xor}
+use Rattle.alu.specs.declared.CompareOp.{CompareOp}
+use Rattle.alu.specs.declared.CompareOp.the-variants.{Cmpu, Cmps}
+
+-- the flags at their places in f: z bit 4, c bit 5, s bit 6, o bit 7
+abbrev pub flagsOf : Bool → Bool → Bool → Bool → ℕ
+flagsOf z c s o = cond z (2 ^ 4) 0 + cond c (2 ^ 5) 0 + cond s (2 ^ 6) 0 + cond o (2 ^ 7) 0
+
+-- "z to 1 if the result is zero"; "s to 1 if the result is negative (copies the highest bit of the result)"
+abbrev pub answerOf : ℕ → Bool → Bool → Answer
+answerOf v c o = record { value = v; flags = flagsOf (eqb v 0) c (bitAt v 15) o }
+
+-- "c to the carry from the highest bit"; "o to 1 if a signed overflow occurs"
+unfoldable pub addOf : ℕ → ℕ → Answer
+addOf a b = answerOf (plusAt 16 a b) (leb (2 ^ 16) (a + b)) (sumOverflows 16 a b)
+
+-- "c to the borrow from the highest bit"
+unfoldable pub subOf : ℕ → ℕ → Answer
+subOf a b = answerOf (minusAt 16 a b) (ltb a b) (differenceOverflows 16 a b)
+
+-- "c to 0", "o to 0"
+unfoldable pub logicOf : ℕ → Answer
+logicOf v = answerOf v false false
+
+-- by "the lowest 4 bits" of the second word; "c to the highest bit of the original value of dstr if shifting by 1 bit", and
+-- "Where the source calls c unspecified (count not 1), c=0"; "o to 1 if the operation changes the value of the highest bit"
+unfoldable pub shlOf : ℕ → ℕ → Answer
+shlOf a n = answerOf (shlAt 16 a n) (eqb n 1 && bitAt a 15) (xor (bitAt a 15) (bitAt (shlAt 16 a n) 15))
+
+-- "c to the lowest bit of the original value of dstr if shifting by 1 bit"
+unfoldable pub shrOf : ℕ → ℕ → Answer
+shrOf a n = answerOf (shrAt 16 a n) (eqb n 1 && bitAt a 0) (xor (bitAt a 15) (bitAt (shrAt 16 a n) 15))
+
+-- "shra has o=1 only for count 1 on 0xffff, else 0"
+unfoldable pub shraOf : ℕ → ℕ → Answer
+shraOf a n = answerOf (shraAt 16 a n) (eqb n 1 && bitAt a 0) (eqb n 1 && eqb a 0xffff)
+
+-- "Unary operations use the source register as the operand"; "Binary operations use the destination register as the first and the source
+-- register as the second operand"; "Shifts use the source's lowest 4 bits"
+unfoldable pub aluOf : AluOp → ℕ → ℕ → Answer
+aluOf Add d s = addOf d s
+aluOf And d s = logicOf (andAt 16 d s)
+aluOf Dec1 d s = subOf s 1
+aluOf Dec2 d s = subOf s 2
+aluOf Inc1 d s = addOf s 1
+aluOf Inc2 d s = addOf s 2
+aluOf Not d s = logicOf (notAt 16 s)
+aluOf Or d s = logicOf (orAt 16 d s)
+aluOf Rev d s = logicOf (revAt 16 s)
+aluOf Shl d s = shlOf d (s % 16)
+aluOf Shr d s = shrOf d (s % 16)
+aluOf Shra d s = shraOf d (s % 16)
+aluOf Sub d s = subOf d s
+aluOf Xor d s = logicOf (xorAt 16 d s)
+
+-- "z to 1 if the values are equal; c to 1 if dstr is less or equal to srcr; s to 1 if dstr is less than srcr; o to 0"
+unfoldable pub compareOf : CompareOp → ℕ → ℕ → ℕ
+compareOf Cmpu d s = flagsOf (eqb d s) (leb d s) (ltb d s) false
+compareOf Cmps d s = flagsOf (eqb d s) (signedAtMost 16 d s) (signedBelow 16 d s) false

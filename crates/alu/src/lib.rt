@@ -1,0 +1,141 @@
+// The arithmetic unit: the value and the flags of every computational instruction.
+use word::bits;
+use word::choice;
+use word::signed;
+use word::sums;
+ghost use mathlib.Core.Path.{_≡_};
+ghost use Prim.Native.Nat.{_%_};
+ghost use Rattle.alu.specs.Unit.{flagsOf, answerOf, addOf, subOf, logicOf, shlOf, shrOf, shraOf, aluOf, compareOf};
+
+pub enum AluOp {
+    Add,
+    And,
+    Dec1,
+    Dec2,
+    Inc1,
+    Inc2,
+    Not,
+    Or,
+    Rev,
+    Shl,
+    Shr,
+    Shra,
+    Sub,
+    Xor,
+}
+
+pub enum CompareOp {
+    Cmpu,
+    Cmps,
+}
+
+// A value, and z, c, s, o at their places in f.
+pub struct Answer {
+    pub value: u16,
+    pub flags: u16,
+}
+
+fn flags(z: bool, c: bool, s: bool, o: bool) -> u16
+    ensures { λ r. ⌜ r ≡ flagsOf z c s o ⌝ }
+{
+    choice::weigh(z, 16) + choice::weigh(c, 32) + choice::weigh(s, 64) + choice::weigh(o, 128)
+}
+
+// z and s go by the value.
+fn answered(v: u16, c: bool, o: bool) -> Answer
+    ensures { λ r. ⌜ r ≡ answerOf v c o ⌝ }
+{
+    Answer {
+        value: v,
+        flags: flags(v == 0, c, bits::bit(v, 15), o),
+    }
+}
+
+fn add(a: u16, b: u16) -> Answer
+    ensures { λ r. ⌜ r ≡ addOf a b ⌝ }
+{
+    answered(
+        sums::plus(a, b),
+        65536 <= a as u32 + b as u32,
+        signed::sum_overflows(a, b),
+    )
+}
+
+fn sub(a: u16, b: u16) -> Answer
+    ensures { λ r. ⌜ r ≡ subOf a b ⌝ }
+{
+    answered(sums::minus(a, b), a < b, signed::difference_overflows(a, b))
+}
+
+fn logic(v: u16) -> Answer
+    ensures { λ r. ⌜ r ≡ logicOf v ⌝ }
+{
+    answered(v, false, false)
+}
+
+fn shl(a: u16, by: u16) -> Answer
+    ensures { λ r. ⌜ r ≡ shlOf a (by % 16) ⌝ }
+{
+    let v = bits::shl(a, by);
+    let top = bits::bit(a, 15);
+    answered(
+        v,
+        choice::both(by % 16 == 1, top),
+        choice::unlike(top, bits::bit(v, 15)),
+    )
+}
+
+fn shr(a: u16, by: u16) -> Answer
+    ensures { λ r. ⌜ r ≡ shrOf a (by % 16) ⌝ }
+{
+    let v = bits::shr(a, by);
+    let top = bits::bit(a, 15);
+    answered(
+        v,
+        choice::both(by % 16 == 1, bits::bit(a, 0)),
+        choice::unlike(top, bits::bit(v, 15)),
+    )
+}
+
+fn shra(a: u16, by: u16) -> Answer
+    ensures { λ r. ⌜ r ≡ shraOf a (by % 16) ⌝ }
+{
+    let one = by % 16 == 1;
+    answered(
+        bits::shra(a, by),
+        choice::both(one, bits::bit(a, 0)),
+        choice::both(one, a == 65535),
+    )
+}
+
+// The value and the flags of an operation on the destination's and the source's words.
+pub fn compute(op: AluOp, d: u16, s: u16) -> Answer
+    ensures { λ r. ⌜ r ≡ aluOf op d s ⌝ }
+{
+    match op {
+        AluOp::Add => add(d, s),
+        AluOp::And => logic(bits::and(d, s)),
+        AluOp::Dec1 => sub(s, 1),
+        AluOp::Dec2 => sub(s, 2),
+        AluOp::Inc1 => add(s, 1),
+        AluOp::Inc2 => add(s, 2),
+        AluOp::Not => logic(bits::not(s)),
+        AluOp::Or => logic(bits::or(d, s)),
+        AluOp::Rev => logic(bits::rev(s)),
+        AluOp::Shl => shl(d, s),
+        AluOp::Shr => shr(d, s),
+        AluOp::Shra => shra(d, s),
+        AluOp::Sub => sub(d, s),
+        AluOp::Xor => logic(bits::xor(d, s)),
+    }
+}
+
+// The flags of a comparison, which stores no value.
+pub fn compare(op: CompareOp, d: u16, s: u16) -> u16
+    ensures { λ r. ⌜ r ≡ compareOf op d s ⌝ }
+{
+    match op {
+        CompareOp::Cmpu => flags(d == s, d <= s, d < s, false),
+        CompareOp::Cmps => flags(d == s, signed::at_most(d, s), signed::below(d, s), false),
+    }
+}

@@ -1,0 +1,4 @@
+pub mod Lists
+pub mod Keyed
+pub mod Tables
+pub mod Spelling

@@ -1,0 +1,37 @@
+-- The decode table and the tables of names: each tells, place by place, what the definitions say.
+use mathlib.Core.Path.{_≡_, refl, sym, ap, _∙_}
+use mathlib.Core.Bool.{true}
+use mathlib.Core.List.{List, [], map}
+use Prim.Native.Nat.{ℕ, _<_}
+use lib.ListN.{getD, List·getD-map}
+use Rattle.isa.specs.Names.{placeIn}
+use Rattle.isa.specs.Opcode.{meaning, images, mnemonics}
+use Rattle.isa.specs.Table.{pack, keyOf, nameOf, seekIn, HoldsNames, Told, told, toldOf, TellsAll}
+use Rattle.isa.proofs.Lists.{tabled, map-map, map-images}
+use Rattle.isa.proofs.Keyed.{Bytes, allTidy, seek-place}
+
+-- the rule at one opcode
+pub tells : (table : List ℕ) → TellsAll table → (opcode : ℕ) → opcode < 256 → told (getD table opcode 0) ≡ toldOf opcode
+unfolding TellsAll
+tells table t opcode h = tabled 0 told toldOf table 256 t opcode h
+
+-- the names of the table are the mnemonics
+tells-names : (table : List ℕ) → TellsAll table → HoldsNames table mnemonics
+unfolding TellsAll HoldsNames mnemonics
+tells-names table t =
+    sym (map-map (λ (x : Told). x .name) told table) ∙ ap (map (λ (x : Told). x .name)) t
+    ∙ map-images (λ (x : Told). x .name) toldOf 0 256 ∙ sym (map-images pack (λ opcode. meaning opcode .name) 0 256)
+
+mnemonics-tidy : allTidy mnemonics ≡ true
+unfolding mnemonics meaning
+mnemonics-tidy = refl
+
+-- so a search for a key finds the opcode that the word names
+pub finds : (table : List ℕ) → TellsAll table → (w : List ℕ) → Bytes w → seekIn table (keyOf w) ≡ placeIn mnemonics w
+finds table t w b = seek-place w b mnemonics table (tells-names table t) mnemonics-tidy
+
+-- the key at a place is the name there; past the end both are empty
+pub held : (entries : List ℕ) (names : List (List ℕ)) → HoldsNames entries names → (k : ℕ) → nameOf (getD entries k 0) ≡ pack (getD names k [])
+unfolding HoldsNames
+held entries names e k =
+    sym (List·getD-map nameOf entries k 0) ∙ ap (λ (l : List ℕ). getD l k 0) e ∙ List·getD-map pack names k []

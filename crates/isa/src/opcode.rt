@@ -1,0 +1,432 @@
+// What each opcode byte is: one table for stepping, listing and assembling.
+use crate::keys;
+use alu::AluOp;
+use alu::CompareOp;
+ghost use mathlib.Core.Path.{_≡_};
+ghost use lib.ListN.{getD};
+ghost use Rattle.isa.specs.Opcode.{meaning, opcodeNamed};
+ghost use Rattle.isa.specs.Table.{alus, compares, moves, loads, stores, operationOf, pack, told, toldOf, TellsAll};
+ghost use Rattle.alu.specs.declared.AluOp.the-variants.{Xor};
+ghost use Rattle.alu.specs.declared.CompareOp.the-variants.{Cmps};
+ghost use Rattle.isa.specs.declared.opcode.MoveOp.the-variants.{Reti};
+ghost use Rattle.isa.specs.declared.opcode.LoadOp.the-variants.{LdisIf};
+ghost use Rattle.isa.specs.declared.opcode.StoreOp.the-variants.{Ddsto};
+
+pub enum MoveOp {
+    Csrr,
+    Csrw,
+    Exch,
+    Mv,
+    MvIf,
+    Reti,
+}
+
+pub enum LoadOp {
+    Ld,
+    Ldb,
+    Ldis,
+    LdIf,
+    LdisIf,
+}
+
+pub enum StoreOp {
+    Sto,
+    Stob,
+    Ddsto,
+}
+
+// An operation; an illegal one with its reason.
+pub enum Op {
+    Illegal(u8),
+    Alu(AluOp),
+    Compare(CompareOp),
+    Move(MoveOp),
+    Load(LoadOp),
+    Store(StoreOp),
+}
+
+pub enum FoundOpcode {
+    Is(u8),
+    Unknown,
+}
+
+// For each opcode byte the mnemonic's bytes, the first lowest, and in the top byte the operation's number: its group, then its place there.
+const TABLE: [u64; 256] = [
+    0x01_000000006c6c69,
+    0x10_00000000646461,
+    0x11_00000000646e61,
+    0x30_00000072727363,
+    0x31_00000077727363,
+    0x12_00000031636564,
+    0x13_00000032636564,
+    0x32_00000068637865,
+    0x14_00000031636e69,
+    0x15_00000032636e69,
+    0x40_0000000000646c,
+    0x41_0000000062646c,
+    0x42_0000007369646c,
+    0x02_00000000000000,
+    0x33_0000000000766d,
+    0x02_00000000000000,
+    0x16_00000000746f6e,
+    0x17_0000000000726f,
+    0x19_000000006c6873,
+    0x1a_00000000726873,
+    0x1b_00000061726873,
+    0x50_000000006f7473,
+    0x51_000000626f7473,
+    0x52_00006f74736464,
+    0x1c_00000000627573,
+    0x20_00000075706d63,
+    0x1d_00000000726f78,
+    0x21_00000073706d63,
+    0x35_00000069746572,
+    0x18_00000000766572,
+    0x02_00000000000000,
+    0x02_00000000000000,
+    0x02_00000000000000,
+    0x02_00000000000000,
+    0x02_00000000000000,
+    0x02_00000000000000,
+    0x02_00000000000000,
+    0x02_00000000000000,
+    0x02_00000000000000,
+    0x02_00000000000000,
+    0x02_00000000000000,
+    0x02_00000000000000,
+    0x02_00000000000000,
+    0x02_00000000000000,
+    0x02_00000000000000,
+    0x02_00000000000000,
+    0x02_00000000000000,
+    0x02_00000000000000,
+    0x02_00000000000000,
+    0x02_00000000000000,
+    0x02_00000000000000,
+    0x02_00000000000000,
+    0x02_00000000000000,
+    0x02_00000000000000,
+    0x02_00000000000000,
+    0x02_00000000000000,
+    0x02_00000000000000,
+    0x02_00000000000000,
+    0x02_00000000000000,
+    0x02_00000000000000,
+    0x02_00000000000000,
+    0x02_00000000000000,
+    0x02_00000000000000,
+    0x02_00000000000000,
+    0x02_00000000000000,
+    0x02_00000000000000,
+    0x02_00000000000000,
+    0x02_00000000000000,
+    0x02_00000000000000,
+    0x02_00000000000000,
+    0x02_00000000000000,
+    0x02_00000000000000,
+    0x02_00000000000000,
+    0x02_00000000000000,
+    0x02_00000000000000,
+    0x02_00000000000000,
+    0x02_00000000000000,
+    0x02_00000000000000,
+    0x02_00000000000000,
+    0x02_00000000000000,
+    0x02_00000000000000,
+    0x02_00000000000000,
+    0x02_00000000000000,
+    0x02_00000000000000,
+    0x02_00000000000000,
+    0x02_00000000000000,
+    0x02_00000000000000,
+    0x02_00000000000000,
+    0x02_00000000000000,
+    0x02_00000000000000,
+    0x02_00000000000000,
+    0x02_00000000000000,
+    0x02_00000000000000,
+    0x02_00000000000000,
+    0x02_00000000000000,
+    0x02_00000000000000,
+    0x02_00000000000000,
+    0x02_00000000000000,
+    0x02_00000000000000,
+    0x02_00000000000000,
+    0x02_00000000000000,
+    0x02_00000000000000,
+    0x02_00000000000000,
+    0x02_00000000000000,
+    0x02_00000000000000,
+    0x02_00000000000000,
+    0x02_00000000000000,
+    0x02_00000000000000,
+    0x02_00000000000000,
+    0x02_00000000000000,
+    0x02_00000000000000,
+    0x02_00000000000000,
+    0x02_00000000000000,
+    0x02_00000000000000,
+    0x02_00000000000000,
+    0x02_00000000000000,
+    0x02_00000000000000,
+    0x02_00000000000000,
+    0x02_00000000000000,
+    0x02_00000000000000,
+    0x02_00000000000000,
+    0x02_00000000000000,
+    0x02_00000000000000,
+    0x02_00000000000000,
+    0x02_00000000000000,
+    0x02_00000000000000,
+    0x02_00000000000000,
+    0x02_00000000000000,
+    0x02_00000000000000,
+    0x02_00000000000000,
+    0x02_00000000000000,
+    0x02_00000000000000,
+    0x02_00000000000000,
+    0x02_00000000000000,
+    0x02_00000000000000,
+    0x02_00000000000000,
+    0x02_00000000000000,
+    0x02_00000000000000,
+    0x02_00000000000000,
+    0x02_00000000000000,
+    0x02_00000000000000,
+    0x02_00000000000000,
+    0x02_00000000000000,
+    0x02_00000000000000,
+    0x43_000030666e646c,
+    0x43_000031666e646c,
+    0x43_000032666e646c,
+    0x43_000033666e646c,
+    0x43_0000007a6e646c,
+    0x43_000000636e646c,
+    0x43_000000736e646c,
+    0x43_0000006f6e646c,
+    0x43_0000003066646c,
+    0x43_0000003166646c,
+    0x43_0000003266646c,
+    0x43_0000003366646c,
+    0x43_000000007a646c,
+    0x43_0000000063646c,
+    0x43_0000000073646c,
+    0x43_000000006f646c,
+    0x44_736930666e646c,
+    0x44_736931666e646c,
+    0x44_736932666e646c,
+    0x44_736933666e646c,
+    0x44_0073697a6e646c,
+    0x44_007369636e646c,
+    0x44_007369736e646c,
+    0x44_0073696f6e646c,
+    0x44_0073693066646c,
+    0x44_0073693166646c,
+    0x44_0073693266646c,
+    0x44_0073693366646c,
+    0x44_000073697a646c,
+    0x44_0000736963646c,
+    0x44_0000736973646c,
+    0x44_000073696f646c,
+    0x02_00000000000000,
+    0x02_00000000000000,
+    0x02_00000000000000,
+    0x02_00000000000000,
+    0x02_00000000000000,
+    0x02_00000000000000,
+    0x02_00000000000000,
+    0x02_00000000000000,
+    0x02_00000000000000,
+    0x02_00000000000000,
+    0x02_00000000000000,
+    0x02_00000000000000,
+    0x02_00000000000000,
+    0x02_00000000000000,
+    0x02_00000000000000,
+    0x02_00000000000000,
+    0x34_000030666e766d,
+    0x34_000031666e766d,
+    0x34_000032666e766d,
+    0x34_000033666e766d,
+    0x34_0000007a6e766d,
+    0x34_000000636e766d,
+    0x34_000000736e766d,
+    0x34_0000006f6e766d,
+    0x34_0000003066766d,
+    0x34_0000003166766d,
+    0x34_0000003266766d,
+    0x34_0000003366766d,
+    0x34_000000007a766d,
+    0x34_0000000063766d,
+    0x34_0000000073766d,
+    0x34_000000006f766d,
+    0x02_00000000000000,
+    0x02_00000000000000,
+    0x02_00000000000000,
+    0x02_00000000000000,
+    0x02_00000000000000,
+    0x02_00000000000000,
+    0x02_00000000000000,
+    0x02_00000000000000,
+    0x02_00000000000000,
+    0x02_00000000000000,
+    0x02_00000000000000,
+    0x02_00000000000000,
+    0x02_00000000000000,
+    0x02_00000000000000,
+    0x02_00000000000000,
+    0x02_00000000000000,
+    0x02_00000000000000,
+    0x02_00000000000000,
+    0x02_00000000000000,
+    0x02_00000000000000,
+    0x02_00000000000000,
+    0x02_00000000000000,
+    0x02_00000000000000,
+    0x02_00000000000000,
+    0x02_00000000000000,
+    0x02_00000000000000,
+    0x02_00000000000000,
+    0x02_00000000000000,
+    0x02_00000000000000,
+    0x02_00000000000000,
+    0x02_00000000000000,
+    0x02_00000000000000,
+    0x02_00000000000000,
+    0x02_00000000000000,
+    0x02_00000000000000,
+    0x02_00000000000000,
+    0x02_00000000000000,
+    0x02_00000000000000,
+    0x02_00000000000000,
+    0x02_00000000000000,
+    0x02_00000000000000,
+    0x02_00000000000000,
+    0x02_00000000000000,
+    0x02_00000000000000,
+    0x02_00000000000000,
+    0x02_00000000000000,
+    0x02_00000000000000,
+    0x02_00000000000000,
+];
+
+// The table, for a caller that decodes many times and keeps it.
+pub fn table() -> [u64; 256]
+    ensures { λ r. ⌜ TellsAll r ⌝ }
+{
+    TABLE
+}
+
+fn entry(opcode: u8) -> u64
+    ensures { λ r. ⌜ told r ≡ toldOf opcode ⌝ }
+{
+    let entries = table();
+    entries[opcode as usize]
+}
+
+fn alu_op(place: u8) -> AluOp
+    ensures { λ r. ⌜ r ≡ getD alus place Xor ⌝ }
+{
+    match place {
+        0 => AluOp::Add,
+        1 => AluOp::And,
+        2 => AluOp::Dec1,
+        3 => AluOp::Dec2,
+        4 => AluOp::Inc1,
+        5 => AluOp::Inc2,
+        6 => AluOp::Not,
+        7 => AluOp::Or,
+        8 => AluOp::Rev,
+        9 => AluOp::Shl,
+        10 => AluOp::Shr,
+        11 => AluOp::Shra,
+        12 => AluOp::Sub,
+        _ => AluOp::Xor,
+    }
+}
+
+fn compare_op(place: u8) -> CompareOp
+    ensures { λ r. ⌜ r ≡ getD compares place Cmps ⌝ }
+{
+    match place {
+        0 => CompareOp::Cmpu,
+        _ => CompareOp::Cmps,
+    }
+}
+
+fn move_op(place: u8) -> MoveOp
+    ensures { λ r. ⌜ r ≡ getD moves place Reti ⌝ }
+{
+    match place {
+        0 => MoveOp::Csrr,
+        1 => MoveOp::Csrw,
+        2 => MoveOp::Exch,
+        3 => MoveOp::Mv,
+        4 => MoveOp::MvIf,
+        _ => MoveOp::Reti,
+    }
+}
+
+fn load_op(place: u8) -> LoadOp
+    ensures { λ r. ⌜ r ≡ getD loads place LdisIf ⌝ }
+{
+    match place {
+        0 => LoadOp::Ld,
+        1 => LoadOp::Ldb,
+        2 => LoadOp::Ldis,
+        3 => LoadOp::LdIf,
+        _ => LoadOp::LdisIf,
+    }
+}
+
+fn store_op(place: u8) -> StoreOp
+    ensures { λ r. ⌜ r ≡ getD stores place Ddsto ⌝ }
+{
+    match place {
+        0 => StoreOp::Sto,
+        1 => StoreOp::Stob,
+        _ => StoreOp::Ddsto,
+    }
+}
+
+// The operation that an entry of the table tells.
+pub fn operation(entry: u64) -> Op
+    ensures { λ r. ⌜ r ≡ operationOf entry ⌝ }
+{
+    let place = (entry / 0x100_0000_0000_0000 % 16) as u8;
+    match entry / 0x1000_0000_0000_0000 {
+        1 => Op::Alu(alu_op(place)),
+        2 => Op::Compare(compare_op(place)),
+        3 => Op::Move(move_op(place)),
+        4 => Op::Load(load_op(place)),
+        5 => Op::Store(store_op(place)),
+        _ => Op::Illegal(place),
+    }
+}
+
+// What an opcode byte does.
+pub fn decode(opcode: u8) -> Op
+    ensures { λ r. ⌜ r ≡ meaning opcode .op ⌝ }
+{
+    operation(entry(opcode))
+}
+
+// An opcode's mnemonic as one number, its first byte lowest; 0 where the opcode gives reason 2.
+pub fn mnemonic(opcode: u8) -> u64
+    ensures { λ r. ⌜ r ≡ pack (meaning opcode .name) ⌝ }
+{
+    keys::name(entry(opcode))
+}
+
+// The opcode that a mnemonic of either case stands for.
+pub fn named(name: &[u8]) -> FoundOpcode
+    ensures { λ r. ⌜ r ≡ opcodeNamed (now (name .entry)) ⌝ }
+{
+    let entries = table();
+    let place = keys::seek(&entries, keys::key(name));
+    if place < 256 {
+        FoundOpcode::Is(place as u8)
+    } else {
+        FoundOpcode::Unknown
+    }
+}

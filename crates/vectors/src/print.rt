@@ -1,0 +1,37 @@
+// Lines of output, and the digest that stands for many results.
+use libc::STDOUT_FILENO;
+
+pub fn text(bytes: &[u8]) {
+    io::write_all(STDOUT_FILENO, bytes);
+}
+
+pub fn space() {
+    text(b" ");
+}
+
+pub fn end() {
+    text(b"\n");
+}
+
+pub fn hex(n: u64, width: usize) {
+    io::print_hex(STDOUT_FILENO, n, width);
+}
+
+pub fn decimal(n: u64) {
+    io::print_decimal(STDOUT_FILENO, n);
+}
+
+// A name that is kept as one number, its first byte lowest.
+pub fn name(key: u64) {
+    let mut rest = key;
+    while rest != 0 {
+        let one = [(rest % 256) as u8];
+        text(&one);
+        rest = rest / 256;
+    }
+}
+
+// The digest with one number more.
+pub fn absorb(digest: u64, x: u16) -> u64 {
+    (digest % 4294967291 * 65599 + x as u64) % 4294967291
+}

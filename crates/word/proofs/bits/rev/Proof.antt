@@ -1,0 +1,36 @@
+use Rattle.word.proofs.Reverse.{Turning, begun, turned, fits, ended}
+use native.Mathlib.Omega.{arith}
+use Rattle.word.proofs.bits.rev.Statement.{statement}
+use Rattle.word.proofs.bits.rev.Tie as tie
+
+abbrev Inv-loop : tie.InvT-loop
+Inv-loop a rest₀ r₀ left₀ rest r left = Turning 16 a left r rest
+
+abbrev μ-loop : tie.MeasureT-loop
+μ-loop a rest₀ r₀ left₀ rest r left = left
+
+loop-holds : tie.Need-loop-holds Inv-loop μ-loop
+loop-holds c = begun 16 (c .args .a)
+
+mul-r : tie.Need-mul-r Inv-loop μ-loop
+mul-r c = omega (arith, fits 16 (c .before .before .args .a) (c .before .loop .left) (c .before .loop .r) (c .before .loop .rest) (c .loop-test .taken) (c .before .loop .inv))
+
+add-r : tie.Need-add-r Inv-loop μ-loop
+add-r c = omega (arith, fits 16 (c .before .before .args .a) (c .before .loop .left) (c .before .loop .r) (c .before .loop .rest) (c .loop-test .taken) (c .before .loop .inv))
+
+sub-left : tie.Need-sub-left Inv-loop μ-loop
+sub-left c = omega arith
+
+loop-less : tie.Need-loop-less Inv-loop μ-loop
+loop-less c = omega arith
+
+loop-again : tie.Need-loop-again Inv-loop μ-loop
+loop-again c = turned 16 (c .before .before .args .a) (c .before .loop .left) (c .before .loop .r) (c .before .loop .rest) (c .loop-test .taken) (c .before .loop .inv)
+
+returns : tie.Need-returns Inv-loop μ-loop
+returns c = ended 16 (c .before .before .args .a) (c .before .loop .left) (c .before .loop .r) (c .before .loop .rest) (c .loop-test .left) (c .before .loop .inv)
+
+pub rev-spec : {M : Type 1} → statement M
+rev-spec =
+    tie.close
+    (tie.spec Inv-loop μ-loop loop-holds mul-r add-r sub-left loop-less loop-again returns)

@@ -1,0 +1,3 @@
+pub mod Word
+pub mod Bits
+pub mod Signed

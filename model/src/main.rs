@@ -1,0 +1,68 @@
+//! An independent model of the MB5016 rules: it writes the inputs and the
+//! expected outputs with which another implementation is compared.
+
+mod alu;
+mod listing;
+mod names;
+mod opcode;
+mod text;
+mod vectors;
+
+use std::io::{self, Read, Write};
+use std::process::ExitCode;
+
+use vectors::images;
+
+const USAGE: &str = "usage: model vectors-input | vectors-output | listing | listing-case K";
+
+/// The status when there is no such case.
+const NO_CASE: u8 = 1;
+/// The status of a wrong call, or when reading or writing fails.
+const FAILED: u8 = 2;
+
+fn main() -> ExitCode {
+    let arguments: Vec<String> = std::env::args().skip(1).collect();
+    let arguments: Vec<&str> = arguments.iter().map(String::as_str).collect();
+    match arguments.as_slice() {
+        ["vectors-input"] => write(&vectors::input()),
+        ["vectors-output"] => write(&vectors::output()),
+        ["text-input"] => write(&vectors::lines::input()),
+        ["text-output"] => write(vectors::lines::output().as_bytes()),
+        ["listing"] => list_standard_input(),
+        ["listing-case", number] => write_case(number),
+        _ => failed(USAGE),
+    }
+}
+
+/// Reads standard input whole and writes its listing.
+fn list_standard_input() -> ExitCode {
+    let mut input = Vec::new();
+    match io::stdin().lock().read_to_end(&mut input) {
+        Ok(_) => write(&listing::listing(&input)),
+        Err(error) => failed(&error.to_string()),
+    }
+}
+
+/// Writes the input of a case of the listing program.
+fn write_case(number: &str) -> ExitCode {
+    match number.parse().map(images::case) {
+        Ok(Some(input)) => write(&input),
+        Ok(None) => ExitCode::from(NO_CASE),
+        Err(_) => failed(USAGE),
+    }
+}
+
+/// Writes bytes to standard output.
+fn write(bytes: &[u8]) -> ExitCode {
+    let mut output = io::stdout().lock();
+    match output.write_all(bytes).and_then(|()| output.flush()) {
+        Ok(()) => ExitCode::SUCCESS,
+        Err(error) => failed(&error.to_string()),
+    }
+}
+
+/// Says on standard error what failed.
+fn failed(message: &str) -> ExitCode {
+    eprintln!("{message}");
+    ExitCode::from(FAILED)
+}

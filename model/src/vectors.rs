@@ -1,0 +1,120 @@
+//! The vectors: sections, each with its own file below `vectors`, and what
+//! they are made with, a digest and a generator of pseudo-random numbers.
+
+pub mod images;
+pub mod isa;
+pub mod lines;
+
+/// A section of the input: its kind and its bytes.
+type Section = (u8, Vec<u8>);
+
+/// The sections in their order.
+fn sections() -> Vec<Section> {
+    vec![(b'i', isa::input())]
+}
+
+/// All sections as one file: for each its kind, three bytes of length with the
+/// lowest first, and its bytes.
+pub fn input() -> Vec<u8> {
+    let mut all = Vec::new();
+    for (kind, bytes) in sections() {
+        all.push(kind);
+        all.extend(&(bytes.len() as u32).to_le_bytes()[..3]);
+        all.extend(bytes);
+    }
+    all
+}
+
+/// What is to be printed for all sections.
+pub fn output() -> Vec<u8> {
+    isa::output().into_bytes()
+}
+
+/// A digest of a series of numbers: it starts at 1, and absorbing `x` makes it
+/// `(h * 65599 + x) mod 4294967291`.
+pub struct Digest(u64);
+
+impl Digest {
+    /// The digest of no numbers.
+    pub fn new() -> Digest {
+        Digest(1)
+    }
+
+    /// Absorbs one number.
+    pub fn absorb(&mut self, x: u16) {
+        self.0 = (self.0 * 65_599 + u64::from(x)) % 4_294_967_291;
+    }
+
+    /// Absorbs each byte as a number.
+    pub fn absorb_bytes(&mut self, bytes: &[u8]) {
+        for byte in bytes {
+            self.absorb(u16::from(*byte));
+        }
+    }
+
+    /// The digest as 8 lower-case hexadecimal digits.
+    pub fn digits(&self) -> String {
+        format!("{:08x}", self.0)
+    }
+}
+
+/// A generator of pseudo-random numbers with a fixed start: a 64-bit linear
+/// congruential generator of which the highest bits are taken.
+pub struct Random(u64);
+
+impl Random {
+    /// The generator with this start.
+    pub fn new(start: u64) -> Random {
+        Random(start)
+    }
+
+    /// The next 16 bits.
+    pub fn word(&mut self) -> u16 {
+        self.0 = self
+            .0
+            .wrapping_mul(6_364_136_223_846_793_005)
+            .wrapping_add(1_442_695_040_888_963_407);
+        (self.0 >> 48) as u16
+    }
+
+    /// The next 8 bits.
+    pub fn byte(&mut self) -> u8 {
+        (self.word() >> 8) as u8
+    }
+
+    /// A number below the limit (at most 65,536).
+    pub fn below(&mut self, limit: usize) -> usize {
+        usize::from(self.word()) * limit / 65_536
+    }
+
+    /// One of the given things.
+    pub fn pick<T: Copy>(&mut self, things: &[T]) -> T {
+        things[self.below(things.len())]
+    }
+
+    /// Some random bytes.
+    pub fn bytes(&mut self, length: usize) -> Vec<u8> {
+        (0..length).map(|_| self.byte()).collect()
+    }
+
+    /// Some bytes picked from an alphabet.
+    pub fn bytes_of(&mut self, alphabet: &[u8], length: usize) -> Vec<u8> {
+        (0..length).map(|_| self.pick(alphabet)).collect()
+    }
+}
+
+#[cfg(test)]
+mod tests {
+    use super::*;
+
+    #[test]
+    fn digests() {
+        let mut digest = Digest::new();
+        assert_eq!(digest.digits(), "00000001");
+        digest.absorb(0);
+        assert_eq!(digest.digits(), "0001003f");
+        digest.absorb(5);
+        let expected = (65_599u64 * 65_599 + 5) % 4_294_967_291;
+        assert_eq!(digest.digits(), format!("{expected:08x}"));
+    }
+}
