@@ -11,9 +11,10 @@ mod vectors;
 use std::io::{self, Read, Write};
 use std::process::ExitCode;
 
-use vectors::images;
+use vectors::{images, throughput};
 
-const USAGE: &str = "usage: model vectors-input | vectors-output | listing | listing-case K";
+const USAGE: &str = "usage: model vectors-input | vectors-output | lines-input N | lines-digest N | \
+                     words-input N | words-digest N | listing | listing-case K";
 
 /// The status when there is no such case.
 const NO_CASE: u8 = 1;
@@ -26,8 +27,10 @@ fn main() -> ExitCode {
     match arguments.as_slice() {
         ["vectors-input"] => write(&vectors::input()),
         ["vectors-output"] => write(&vectors::output()),
-        ["text-input"] => write(&vectors::lines::input()),
-        ["text-output"] => write(vectors::lines::output().as_bytes()),
+        ["lines-input", passes] => sized(passes, throughput::lines_input),
+        ["lines-digest", passes] => sized(passes, |n| throughput::lines_digest(n).into_bytes()),
+        ["words-input", passes] => sized(passes, throughput::words_input),
+        ["words-digest", passes] => sized(passes, |n| throughput::words_digest(n).into_bytes()),
         ["listing"] => list_standard_input(),
         ["listing-case", number] => write_case(number),
         _ => failed(USAGE),
@@ -48,6 +51,14 @@ fn write_case(number: &str) -> ExitCode {
     match number.parse().map(images::case) {
         Ok(Some(input)) => write(&input),
         Ok(None) => ExitCode::from(NO_CASE),
+        Err(_) => failed(USAGE),
+    }
+}
+
+/// Writes what is made for a number of passes.
+fn sized(passes: &str, make: impl Fn(u8) -> Vec<u8>) -> ExitCode {
+    match passes.parse() {
+        Ok(number) => write(&make(number)),
         Err(_) => failed(USAGE),
     }
 }

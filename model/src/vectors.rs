@@ -4,30 +4,31 @@
 pub mod images;
 pub mod isa;
 pub mod lines;
+pub mod throughput;
 
 /// A section of the input: its kind and its bytes.
 type Section = (u8, Vec<u8>);
 
 /// The sections in their order.
 fn sections() -> Vec<Section> {
-    vec![(b'i', isa::input())]
+    vec![(b'i', isa::input()), (b't', lines::input())]
 }
 
-/// All sections as one file: for each its kind, three bytes of length with the
-/// lowest first, and its bytes.
+/// All sections as one file.
 pub fn input() -> Vec<u8> {
-    let mut all = Vec::new();
-    for (kind, bytes) in sections() {
-        all.push(kind);
-        all.extend(&(bytes.len() as u32).to_le_bytes()[..3]);
-        all.extend(bytes);
-    }
-    all
+    sections().iter().flat_map(framed).collect()
+}
+
+/// A section with its kind and three bytes of length, the lowest first, in
+/// front.
+fn framed((kind, bytes): &Section) -> Vec<u8> {
+    let length = (bytes.len() as u32).to_le_bytes();
+    [&[*kind], &length[..3], bytes].concat()
 }
 
 /// What is to be printed for all sections.
 pub fn output() -> Vec<u8> {
-    isa::output().into_bytes()
+    [isa::output(), lines::output()].concat().into_bytes()
 }
 
 /// A digest of a series of numbers: it starts at 1, and absorbing `x` makes it

@@ -1,5 +1,5 @@
 -- The arithmetic unit: each computational instruction's value and flags, from the words in the destination and in the source register.
--- The sentences quoted are those of the source's alphabetical list.
+-- The sentences quoted are the source's (its alphabetical list and its groups of instructions) and the house's where it completes them.
 use mathlib.Core.Bool.{Bool, false, cond, xor, _&&_}
 use Prim.Native.Nat.{ℕ, _+_, _%_, _^_}
 use lib.Dec.{ltb, leb, eqb}

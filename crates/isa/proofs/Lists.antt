@@ -1,7 +1,8 @@
 -- Lists made by a function, and rules that hold at each place of such a list.
 use mathlib.Core.Path.{_≡_, refl, sym, ap, _∙_}
 use mathlib.Core.List.{List, [], _∷_, map}
-use Prim.Native.Nat.{ℕ, zero, suc, _+_, _<_}
+use Prim.Native.Nat.{ℕ, zero, suc, _+_, _-_, _<_, _≤_}
+use native.Mathlib.Omega.{arith}
 use native.Mathlib.Nat.{add-zero, zero-add, add-suc, suc-add, le-of-suc-le-suc, not-suc-le-zero}
 use lib.ListN.{getD, length, List·getD-map}
 use Rattle.isa.specs.Opcode.{images}
@@ -28,3 +29,10 @@ tabled {B = B} d g f xs n e k h =
 pub agree : {A : Type 0} (d : A) (f g : ℕ → A) (n : ℕ) → images f 0 n ≡ images g 0 n → (k : ℕ) → k < n → f k ≡ g k
 agree {A = A} d f g n e k h =
     ap f (sym (zero-add k)) ∙ sym (images-at d f 0 n k h) ∙ ap (λ (l : List A). getD l k d) e ∙ images-at d g 0 n k h ∙ ap g (zero-add k)
+
+-- a function that has one value over n numbers from i on
+pub ranged : {A : Type 0} (f : ℕ → A) (v : A) (i n : ℕ) → images f i n ≡ images (λ k. v) i n → (k : ℕ) → i ≤ k → k < i + n → f k ≡ v
+ranged {A = A} f v i n e k h l =
+    let m : i + (k - i) ≡ k = omega arith in
+    let b : k - i < n = omega arith in
+    ap f (sym m) ∙ sym (images-at v f i n (k - i) b) ∙ ap (λ (x : List A). getD x (k - i) v) e ∙ images-at v (λ k. v) i n (k - i) b

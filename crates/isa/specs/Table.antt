@@ -1,5 +1,5 @@
 -- How the decode table keeps an opcode's meaning: one number of 64 bits, the mnemonic's bytes below, the operation's number in the top byte.
--- Only the table's own functions and laws read this file; what an opcode means stands in Opcode.
+-- What an opcode means stands in Opcode and what a name stands for in Names; here is only how numbers keep them.
 use Prim.Native.Nat.{ℕ, suc, _+_, _*_, _/_, _%_, _^_}
 use mathlib.Core.Bool.{Bool, true, false, cond, _&&_}
 use mathlib.Core.List.{List, [], _∷_, map}

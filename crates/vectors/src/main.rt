@@ -2,6 +2,7 @@
 // Standard input is a run of sections: a byte that says which, three bytes of length, the lowest first, then so many bytes.
 mod grid;
 mod instructions;
+mod lines;
 mod print;
 
 use libc::STDIN_FILENO;
@@ -10,10 +11,10 @@ ghost use Prim.Native.Nat.{_≤_};
 ghost use lib.ListN.{length};
 
 fn section(kind: u8, body: &[u8]) {
-    if kind == b'i' {
-        instructions::run(body);
-    } else {
-        print::text(b"unknown section\n");
+    match kind {
+        b'i' => instructions::run(body),
+        b't' => lines::run(body),
+        _ => print::text(b"unknown section\n"),
     }
 }
 

@@ -35,3 +35,7 @@ pub fn name(key: u64) {
 pub fn absorb(digest: u64, x: u16) -> u64 {
     (digest % 4294967291 * 65599 + x as u64) % 4294967291
 }
+
+pub fn absorb_byte(digest: u64, b: u8) -> u64 {
+    absorb(digest, b as u16)
+}

@@ -1,0 +1,33 @@
+-- No second answer satisfies a contract: the answer is read back from the paper's number and value.
+use mathlib.Core.Path.{_≡_, refl, sym, ap, _∙_}
+use mathlib.Core.Bool.{cond}
+use Prim.Native.Nat.{ℕ}
+use lib.Dec.{eqb}
+use Rattle.text.specs.Answer.{Answer, listedAs, assembledAs}
+use Rattle.text.specs.declared.list.Listed.{Listed}
+use Rattle.text.specs.declared.list.Listed.the-variants.{Text, Reason2, NoRoom}
+use Rattle.text.specs.declared.assemble.Assembled.{Assembled}
+use Rattle.text.specs.declared.assemble.Assembled.the-variants.{Word, BadLine, BadMnemonic, BadOperand}
+
+abbrev listedOf : Answer → Listed
+listedOf a = cond (eqb (a .no) 10) Reason2 (cond (eqb (a .no) 11) NoRoom (Text (a .value)))
+
+listed-back : (r : Listed) → listedOf (listedAs r) ≡ r
+listed-back (Text n) = refl
+listed-back Reason2 = refl
+listed-back NoRoom = refl
+
+pub listed-one : (r s : Listed) → listedAs r ≡ listedAs s → r ≡ s
+listed-one r s e = sym (listed-back r) ∙ ap listedOf e ∙ listed-back s
+
+abbrev assembledOf : Answer → Assembled
+assembledOf a = cond (eqb (a .no) 12) BadLine (cond (eqb (a .no) 13) BadMnemonic (cond (eqb (a .no) 14) BadOperand (Word (a .value))))
+
+assembled-back : (r : Assembled) → assembledOf (assembledAs r) ≡ r
+assembled-back (Word w) = refl
+assembled-back BadLine = refl
+assembled-back BadMnemonic = refl
+assembled-back BadOperand = refl
+
+pub assembled-one : (r s : Assembled) → assembledAs r ≡ assembledAs s → r ≡ s
+assembled-one r s e = sym (assembled-back r) ∙ ap assembledOf e ∙ assembled-back s

@@ -1,0 +1,7 @@
+pub mod Answer
+pub mod Listing
+pub mod Line
+pub mod Grammar
+pub mod Assembling
+pub mod Places
+pub mod Image
