@@ -11,9 +11,9 @@ mod vectors;
 use std::io::{self, Read, Write};
 use std::process::ExitCode;
 
-use vectors::{images, throughput};
+use vectors::{images, isa, lines, throughput};
 
-const USAGE: &str = "usage: model vectors-input | vectors-output | lines-input N | lines-digest N | \
+const USAGE: &str = "usage: model isa-input | isa-output | text-input | text-output | lines-input N | lines-digest N | \
                      words-input N | words-digest N | listing | listing-case K";
 
 /// The status when there is no such case.
@@ -25,8 +25,10 @@ fn main() -> ExitCode {
     let arguments: Vec<String> = std::env::args().skip(1).collect();
     let arguments: Vec<&str> = arguments.iter().map(String::as_str).collect();
     match arguments.as_slice() {
-        ["vectors-input"] => write(&vectors::input()),
-        ["vectors-output"] => write(&vectors::output()),
+        ["isa-input"] => write(&isa::input()),
+        ["isa-output"] => write(isa::output().as_bytes()),
+        ["text-input"] => write(&lines::input()),
+        ["text-output"] => write(lines::output().as_bytes()),
         ["lines-input", passes] => sized(passes, throughput::lines_input),
         ["lines-digest", passes] => sized(passes, |n| throughput::lines_digest(n).into_bytes()),
         ["words-input", passes] => sized(passes, throughput::words_input),

@@ -1,35 +1,10 @@
-//! The vectors: sections, each with its own file below `vectors`, and what
-//! they are made with, a digest and a generator of pseudo-random numbers.
+//! What the vectors are made with: a digest and a generator of pseudo-random
+//! numbers. The vectors themselves are in the files below `vectors`.
 
 pub mod images;
 pub mod isa;
 pub mod lines;
 pub mod throughput;
-
-/// A section of the input: its kind and its bytes.
-type Section = (u8, Vec<u8>);
-
-/// The sections in their order.
-fn sections() -> Vec<Section> {
-    vec![(b'i', isa::input()), (b't', lines::input())]
-}
-
-/// All sections as one file.
-pub fn input() -> Vec<u8> {
-    sections().iter().flat_map(framed).collect()
-}
-
-/// A section with its kind and three bytes of length, the lowest first, in
-/// front.
-fn framed((kind, bytes): &Section) -> Vec<u8> {
-    let length = (bytes.len() as u32).to_le_bytes();
-    [&[*kind], &length[..3], bytes].concat()
-}
-
-/// What is to be printed for all sections.
-pub fn output() -> Vec<u8> {
-    [isa::output(), lines::output()].concat().into_bytes()
-}
 
 /// A digest of a series of numbers: it starts at 1, and absorbing `x` makes it
 /// `(h * 65599 + x) mod 4294967291`.

@@ -1,7 +1,6 @@
 // Lines assembled, or every word listed, several times over, with one digest for all: what bench/text measures.
 // Standard input: `l` and the number of passes, then lines, each with its length in front; or `w` and the number of passes.
 use libc::STDIN_FILENO;
-use libc::STDOUT_FILENO;
 use text::assemble;
 use text::assemble::Assembled;
 use text::list;
@@ -9,30 +8,21 @@ use text::list::Listed;
 ghost use mathlib.Core.Path.{_≡_};
 ghost use lib.ListN.{length};
 
-// The digest with one number more.
-fn absorb(digest: u64, x: u16) -> u64 {
-    (digest % 4294967291 * 65599 + x as u64) % 4294967291
-}
-
-fn absorb_byte(digest: u64, b: u8) -> u64 {
-    absorb(digest, b as u16)
-}
-
 fn assembled(digest: u64, line: &[u8]) -> u64 {
     match assemble::assemble(line) {
-        Assembled::Word(w) => absorb(digest, w),
-        Assembled::BadLine => absorb(digest, 12),
-        Assembled::BadMnemonic => absorb(digest, 13),
-        Assembled::BadOperand => absorb(digest, 14),
+        Assembled::Word(w) => report::absorb(digest, w),
+        Assembled::BadLine => report::absorb(digest, 12),
+        Assembled::BadMnemonic => report::absorb(digest, 13),
+        Assembled::BadOperand => report::absorb(digest, 14),
     }
 }
 
 fn listed(digest: u64, word: u16) -> u64 {
     let mut out = [0u8; 16];
     match list::list(word, &mut out) {
-        Listed::Text(n) => absorb_byte(absorb(digest, (n % 65536) as u16), out[0]),
-        Listed::Reason2 => absorb(digest, 10),
-        Listed::NoRoom => absorb(digest, 11),
+        Listed::Text(n) => report::absorb_byte(report::absorb(digest, (n % 65536) as u16), out[0]),
+        Listed::Reason2 => report::absorb(digest, 10),
+        Listed::NoRoom => report::absorb(digest, 11),
     }
 }
 
@@ -103,6 +93,6 @@ fn room() -> [u8; 262144]
 fn main() {
     let mut buffer = room();
     let n = io::read_full(STDIN_FILENO, &mut buffer);
-    io::print_hex(STDOUT_FILENO, run(&buffer[..n]), 8);
-    io::write_all(STDOUT_FILENO, b"\n");
+    report::hex(run(&buffer[..n]), 8);
+    report::end();
 }

@@ -1,6 +1,5 @@
 // Opcodes, conditions, the arithmetic unit over a grid of words, and names.
 use crate::grid;
-use crate::print;
 use alu::AluOp;
 use alu::Answer;
 use alu::CompareOp;
@@ -93,17 +92,17 @@ fn label(op: Op) -> u64 {
 }
 
 fn opcode_row(code: u8) {
-    print::hex(code as u64, 2);
-    print::space();
+    report::hex(code as u64, 2);
+    report::space();
     let key = opcode::mnemonic(code);
     if key == 0 {
-        print::text(b"-");
+        report::text(b"-");
     } else {
-        print::name(key);
+        report::name(key);
     }
-    print::space();
-    print::name(label(opcode::decode(code)));
-    print::end();
+    report::space();
+    report::name(label(opcode::decode(code)));
+    report::end();
 }
 
 fn opcode_rows() {
@@ -116,7 +115,7 @@ fn condition_digest(code: u8, words: &[u16]) -> u64 {
     let mut digest: u64 = 1;
     let mut i = 0;
     while i < words.len() {
-        digest = print::absorb(digest, condition::holds(code, words[i]) as u16);
+        digest = report::absorb(digest, condition::holds(code, words[i]) as u16);
         i += 1;
     }
     digest
@@ -124,11 +123,11 @@ fn condition_digest(code: u8, words: &[u16]) -> u64 {
 
 fn condition_rows(words: &[u16]) {
     for code in 0..16u8 {
-        print::text(b"cond ");
-        print::hex(code as u64, 1);
-        print::space();
-        print::hex(condition_digest(code, words), 8);
-        print::end();
+        report::text(b"cond ");
+        report::hex(code as u64, 1);
+        report::space();
+        report::hex(condition_digest(code, words), 8);
+        report::end();
     }
 }
 
@@ -148,19 +147,19 @@ fn digest(op: Op, d: u16, words: &[u16]) -> u64 {
     let mut i = 0;
     while i < words.len() {
         let a = answer(op, d, words[i]);
-        digest = print::absorb(print::absorb(digest, a.value), a.flags);
+        digest = report::absorb(report::absorb(digest, a.value), a.flags);
         i += 1;
     }
     digest
 }
 
 fn digest_row(code: u8, op: Op, d: u16, words: &[u16]) {
-    print::name(opcode::mnemonic(code));
-    print::space();
-    print::hex(d as u64, 4);
-    print::space();
-    print::hex(digest(op, d, words), 8);
-    print::end();
+    report::name(opcode::mnemonic(code));
+    report::space();
+    report::hex(d as u64, 4);
+    report::space();
+    report::hex(digest(op, d, words), 8);
+    report::end();
 }
 
 fn digest_rows(code: u8, words: &[u16]) {
@@ -174,16 +173,16 @@ fn digest_rows(code: u8, words: &[u16]) {
 
 fn edge_row(code: u8, d: u16, s: u16) {
     let a = answer(opcode::decode(code), d, s);
-    print::name(opcode::mnemonic(code));
-    print::space();
-    print::hex(d as u64, 4);
-    print::space();
-    print::hex(s as u64, 4);
-    print::space();
-    print::hex(a.value as u64, 4);
-    print::space();
-    print::hex(a.flags as u64, 4);
-    print::end();
+    report::name(opcode::mnemonic(code));
+    report::space();
+    report::hex(d as u64, 4);
+    report::space();
+    report::hex(s as u64, 4);
+    report::space();
+    report::hex(a.value as u64, 4);
+    report::space();
+    report::hex(a.flags as u64, 4);
+    report::end();
 }
 
 fn edges_of(code: u8, d: u16, edges: &[u16]) {
@@ -236,9 +235,9 @@ fn all_edges(edges: &[u16]) {
 
 fn number_or_dash(known: bool, number: u8) {
     if known {
-        print::decimal(number as u64);
+        report::decimal(number as u64);
     } else {
-        print::text(b"-");
+        report::text(b"-");
     }
 }
 
@@ -257,12 +256,12 @@ fn csr_of(name: &[u8]) {
 }
 
 fn name_row(index: u64, name: &[u8]) {
-    print::decimal(index);
-    print::space();
+    report::decimal(index);
+    report::space();
     register_of(name);
-    print::space();
+    report::space();
     csr_of(name);
-    print::end();
+    report::end();
 }
 
 fn line_end(input: &[u8], from: usize) -> usize
@@ -300,11 +299,11 @@ pub fn run(input: &[u8]) {
     let n = g.count as usize;
     let names = n * 5 + 1;
     if n < 9 {
-        print::text(b"too few words\n");
+        report::text(b"too few words\n");
         return;
     }
     if input.len() < names {
-        print::text(b"no names\n");
+        report::text(b"no names\n");
         return;
     }
     opcode_rows();

@@ -1,7 +1,7 @@
 use borrow.Author.Needs.{needs}
 use Prim.Native.Nat.{_-_, _≤_}
-use Rattle.vectors.proofs.lines.opcode_digest.Statement.{statement}
-use Rattle.vectors.proofs.lines.opcode_digest.Tie as tie
+use Rattle.text_vectors.proofs.lines.opcode_digest.Statement.{statement}
+use Rattle.text_vectors.proofs.lines.opcode_digest.Tie as tie
 
 abbrev Inv-loop : tie.InvT-loop
 Inv-loop code digest₀ second₀ digest second = second ≤ 256

@@ -1,8 +1,8 @@
 use lib.ListN.{length}
 use borrow.Author.Needs.{needs}
 use Prim.Native.Nat.{_-_, _≤_}
-use Rattle.vectors.proofs.lines.absorb_bytes.Statement.{statement}
-use Rattle.vectors.proofs.lines.absorb_bytes.Tie as tie
+use Rattle.text_vectors.proofs.lines.absorb_bytes.Statement.{statement}
+use Rattle.text_vectors.proofs.lines.absorb_bytes.Tie as tie
 
 abbrev Inv-loop : tie.InvT-loop
 Inv-loop digest bytes h₀ i₀ h i = i ≤ length bytes

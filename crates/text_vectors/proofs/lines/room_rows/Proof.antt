@@ -1,7 +1,7 @@
 use borrow.Author.Needs.{needs}
 use Prim.Native.Nat.{_-_, _≤_}
-use Rattle.vectors.proofs.lines.room_rows.Statement.{statement}
-use Rattle.vectors.proofs.lines.room_rows.Tie as tie
+use Rattle.text_vectors.proofs.lines.room_rows.Statement.{statement}
+use Rattle.text_vectors.proofs.lines.room_rows.Tie as tie
 
 abbrev Inv-loop : tie.InvT-loop
 Inv-loop n₀ n = n ≤ 17

@@ -1,6 +1,6 @@
 use borrow.Author.Needs.{needs}
-use Rattle.vectors.proofs.print.name.Statement.{statement}
-use Rattle.vectors.proofs.print.name.Tie as tie
+use Rattle.report.proofs.name.Statement.{statement}
+use Rattle.report.proofs.name.Tie as tie
 
 abbrev Inv-loop : tie.InvT-loop
 Inv-loop key rest₀ rest = Unit {0}

@@ -1,5 +1,4 @@
 // Listing every word, and assembling lines.
-use crate::print;
 use text::assemble;
 use text::assemble::Assembled;
 use text::list;
@@ -55,14 +54,14 @@ fn absorb_bytes(digest: u64, bytes: &[u8]) -> u64 {
     let mut h = digest;
     let mut i = 0;
     while i < bytes.len() {
-        h = print::absorb_byte(h, bytes[i]);
+        h = report::absorb_byte(h, bytes[i]);
         i += 1;
     }
     h
 }
 
 fn absorb_answer(digest: u64, answer: Numbered) -> u64 {
-    print::absorb(print::absorb(digest, answer.number), answer.value)
+    report::absorb(report::absorb(digest, answer.number), answer.value)
 }
 
 // The number and the word that a listed text assembles to; 0 and 0 where it was not listed.
@@ -100,27 +99,27 @@ fn opcode_digest(code: u8) -> u64 {
 
 fn opcode_rows() {
     for code in 0..=255u8 {
-        print::hex(code as u64, 2);
-        print::space();
-        print::hex(opcode_digest(code), 8);
-        print::end();
+        report::hex(code as u64, 2);
+        report::space();
+        report::hex(opcode_digest(code), 8);
+        report::end();
     }
 }
 
 fn print_numbered(answer: Numbered, digest: u64) {
-    print::decimal(answer.number as u64);
-    print::space();
-    print::decimal(answer.value as u64);
-    print::space();
-    print::hex(digest, 8);
-    print::end();
+    report::decimal(answer.number as u64);
+    report::space();
+    report::decimal(answer.value as u64);
+    report::space();
+    report::hex(digest, 8);
+    report::end();
 }
 
 // `ldnf0is r10, r11` into an output of n bytes.
 fn room_row(n: usize, out: &mut [u8]) {
-    print::text(b"room ");
-    print::decimal(n as u64);
-    print::space();
+    report::text(b"room ");
+    report::decimal(n as u64);
+    report::space();
     let answer = listed(list::list(0xaba0, out));
     print_numbered(answer, absorb_bytes(1, out));
 }
@@ -134,12 +133,12 @@ fn room_rows() {
 
 fn line_row(index: u64, line: &[u8]) {
     let answer = assembled(assemble::assemble(line));
-    print::decimal(index);
-    print::space();
-    print::decimal(answer.number as u64);
-    print::space();
-    print::hex(answer.value as u64, 4);
-    print::end();
+    report::decimal(index);
+    report::space();
+    report::decimal(answer.number as u64);
+    report::space();
+    report::hex(answer.value as u64, 4);
+    report::end();
 }
 
 fn wide(b: u8) -> usize {
@@ -154,7 +153,7 @@ fn line_rows(input: &[u8]) {
         let n = wide(input[at]);
         let from = at + 1;
         if input.len() - from < n {
-            print::text(b"cut short\n");
+            report::text(b"cut short\n");
             return;
         }
         let to = from + n;

@@ -1,8 +1,8 @@
 use lib.ListN.{length}
 use borrow.Author.Needs.{needs}
 use Prim.Native.Nat.{_-_, _≤_}
-use Rattle.vectors.proofs.lines.line_rows.Statement.{statement}
-use Rattle.vectors.proofs.lines.line_rows.Tie as tie
+use Rattle.text_vectors.proofs.lines.line_rows.Statement.{statement}
+use Rattle.text_vectors.proofs.lines.line_rows.Tie as tie
 
 abbrev Inv-loop : tie.InvT-loop
 Inv-loop input at₀ index₀ t7 at index = at ≤ length input

@@ -1,5 +1,7 @@
-// Lines of output, and the digest that stands for many results.
+// What the vector programs print with: pieces of lines, and the digest that stands for many results. No contract can say what is written.
 use libc::STDOUT_FILENO;
+ghost use mathlib.Core.Path.{_≡_};
+ghost use Prim.Native.Nat.{_+_, _*_, _%_};
 
 pub fn text(bytes: &[u8]) {
     io::write_all(STDOUT_FILENO, bytes);
@@ -32,10 +34,14 @@ pub fn name(key: u64) {
 }
 
 // The digest with one number more.
-pub fn absorb(digest: u64, x: u16) -> u64 {
+pub fn absorb(digest: u64, x: u16) -> u64
+    ensures { λ r. ⌜ r ≡ (digest % 4294967291 * 65599 + x) % 4294967291 ⌝ }
+{
     (digest % 4294967291 * 65599 + x as u64) % 4294967291
 }
 
-pub fn absorb_byte(digest: u64, b: u8) -> u64 {
+pub fn absorb_byte(digest: u64, b: u8) -> u64
+    ensures { λ r. ⌜ r ≡ (digest % 4294967291 * 65599 + b) % 4294967291 ⌝ }
+{
     absorb(digest, b as u16)
 }
