@@ -2,6 +2,8 @@
 //! expected outputs with which another implementation is compared.
 
 mod alu;
+mod bus;
+mod cpu;
 mod listing;
 mod names;
 mod opcode;
@@ -11,10 +13,10 @@ mod vectors;
 use std::io::{self, Read, Write};
 use std::process::ExitCode;
 
-use vectors::{images, isa, lines, throughput};
+use vectors::{images, isa, lines, steps, throughput};
 
 const USAGE: &str = "usage: model isa-input | isa-output | text-input | text-output | lines-input N | lines-digest N | \
-                     words-input N | words-digest N | listing | listing-case K";
+                     words-input N | words-digest N | listing | listing-case K | steps-input | steps-output";
 
 /// The status when there is no such case.
 const NO_CASE: u8 = 1;
@@ -29,6 +31,8 @@ fn main() -> ExitCode {
         ["isa-output"] => write(isa::output().as_bytes()),
         ["text-input"] => write(&lines::input()),
         ["text-output"] => write(lines::output().as_bytes()),
+        ["steps-input"] => write(&steps::input()),
+        ["steps-output"] => write(steps::output().as_bytes()),
         ["lines-input", passes] => sized(passes, throughput::lines_input),
         ["lines-digest", passes] => sized(passes, |n| throughput::lines_digest(n).into_bytes()),
         ["words-input", passes] => sized(passes, throughput::words_input),

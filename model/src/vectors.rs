@@ -4,6 +4,7 @@
 pub mod images;
 pub mod isa;
 pub mod lines;
+pub mod steps;
 pub mod throughput;
 
 /// A digest of a series of numbers: it starts at 1, and absorbing `x` makes it
@@ -19,6 +20,13 @@ impl Digest {
     /// Absorbs one number.
     pub fn absorb(&mut self, x: u16) {
         self.0 = (self.0 * 65_599 + u64::from(x)) % 4_294_967_291;
+    }
+
+    /// Absorbs three numbers at once: as one number of 48 bits, the first one
+    /// lowest, which takes a third of the time of absorbing one by one.
+    pub fn absorb_three(&mut self, a: u16, b: u16, c: u16) {
+        let number = u64::from(a) + (u64::from(b) << 16) + (u64::from(c) << 32);
+        self.0 = (self.0 * 65_599 + number) % 4_294_967_291;
     }
 
     /// Absorbs each byte as a number.
@@ -68,6 +76,13 @@ impl Random {
         things[self.below(things.len())]
     }
 
+    /// Brings things into another order.
+    pub fn shuffle<T>(&mut self, things: &mut [T]) {
+        for last in (1..things.len()).rev() {
+            things.swap(last, self.below(last + 1));
+        }
+    }
+
     /// Some random bytes.
     pub fn bytes(&mut self, length: usize) -> Vec<u8> {
         (0..length).map(|_| self.byte()).collect()
@@ -91,6 +106,17 @@ mod tests {
         assert_eq!(digest.digits(), "0001003f");
         digest.absorb(5);
         let expected = (65_599u64 * 65_599 + 5) % 4_294_967_291;
+        assert_eq!(digest.digits(), format!("{expected:08x}"));
+    }
+
+    #[test]
+    fn digests_of_three() {
+        let mut digest = Digest::new();
+        digest.absorb_three(1, 0, 0);
+        assert_eq!(digest.digits(), format!("{:08x}", 65_600));
+        digest.absorb_three(0xffff, 0xfffe, 0xfffd);
+        let sum = 65_600u64 * 65_599 + 65_535 + 65_534 * 65_536 + 65_533 * 4_294_967_296;
+        let expected = sum % 4_294_967_291;
         assert_eq!(digest.digits(), format!("{expected:08x}"));
     }
 }
