@@ -2,12 +2,15 @@
 use mathlib.Core.Path.{_≡_, refl, sym, ap, _∙_}
 use mathlib.Core.Bool.{true}
 use mathlib.Core.List.{List, [], map}
-use Prim.Native.Nat.{ℕ, _<_}
+use Prim.Native.Nat.{ℕ, _≤_, _<_}
 use lib.ListN.{getD, List·getD-map}
 use Rattle.isa.specs.Names.{placeIn}
-use Rattle.isa.specs.Opcode.{meaning, images, mnemonics}
-use Rattle.isa.specs.Table.{pack, keyOf, nameOf, seekIn, HoldsNames, Told, told, toldOf, TellsAll}
-use Rattle.isa.proofs.Lists.{tabled, map-map, map-images}
+use lib.Dec.{leb}
+use native.Mathlib.Omega.{arith}
+use borrow.Author.Tests.{leb-true}
+use Rattle.isa.specs.Opcode.{meaning, images, mnemonics, reasonOf}
+use Rattle.isa.specs.Table.{pack, keyOf, nameOf, seekIn, HoldsNames, operationOf, Told, told, toldOf, TellsAll}
+use Rattle.isa.proofs.Lists.{tabled, ranged, map-map, map-images}
 use Rattle.isa.proofs.Keyed.{Bytes, allTidy, seek-place}
 
 -- the rule at one opcode
@@ -35,3 +38,12 @@ pub held : (entries : List ℕ) (names : List (List ℕ)) → HoldsNames entries
 unfolding HoldsNames
 held entries names e k =
     sym (List·getD-map nameOf entries k 0) ∙ ap (λ (l : List ℕ). getD l k 0) e ∙ List·getD-map pack names k []
+
+-- the operation that the table tells
+pub tells-op : (table : List ℕ) → TellsAll table → (opcode : ℕ) → opcode < 256 → operationOf (getD table opcode 0) ≡ meaning opcode .op
+tells-op table t opcode h = ap (λ (x : Told). x .op) (tells table t opcode h)
+
+-- a reason is 1 or 2, and 0 stands for a legal opcode
+pub reason-small : (opcode : ℕ) → opcode < 256 → reasonOf (meaning opcode .op) ≤ 2
+unfolding meaning
+reason-small opcode h = leb-true _ _ (ranged (λ o. leb (reasonOf (meaning o .op)) 2) true 0 256 refl opcode (omega arith) h)

@@ -40,6 +40,14 @@ pub fn absorb(digest: u64, x: u16) -> u64
     (digest % 4294967291 * 65599 + x as u64) % 4294967291
 }
 
+// The digest with three words more, taken as one number.
+pub fn absorb_three(digest: u64, a: u16, b: u16, c: u16) -> u64
+    ensures { λ r. ⌜ r ≡ (digest % 4294967291 * 65599 + (a + b * 65536 + c * 4294967296)) % 4294967291 ⌝ }
+{
+    (digest % 4294967291 * 65599 + (a as u64 + b as u64 * 65536 + c as u64 * 4294967296))
+        % 4294967291
+}
+
 pub fn absorb_byte(digest: u64, b: u8) -> u64
     ensures { λ r. ⌜ r ≡ (digest % 4294967291 * 65599 + b) % 4294967291 ⌝ }
 {

@@ -1,6 +1,6 @@
 // A value by a test. A caller that goes through these has no branch of its own left to prove.
 ghost use mathlib.Core.Path.{_≡_};
-ghost use mathlib.Core.Bool.{cond, xor, Bool·beq, _&&_};
+ghost use mathlib.Core.Bool.{cond, xor, Bool·beq, _&&_, _||_};
 ghost use Prim.Native.Nat.{_≤_};
 
 pub fn pick(test: bool, yes: u16, other: u16) -> u16
@@ -27,6 +27,12 @@ pub fn both(a: bool, b: bool) -> bool
     ensures { λ r. ⌜ r ≡ (a && b) ⌝ }
 {
     if a { b } else { false }
+}
+
+pub fn either(a: bool, b: bool) -> bool
+    ensures { λ r. ⌜ r ≡ (a || b) ⌝ }
+{
+    if a { true } else { b }
 }
 
 pub fn alike(a: bool, b: bool) -> bool

@@ -1,0 +1,99 @@
+-- "One step", and what it tells: the next state, the memory, the bytes written through memory, their first address, the bus bytes.
+use mathlib.Core.Bool.{Bool, cond}
+use mathlib.Core.List.{List}
+use Prim.Native.Nat.{ℕ, _+_}
+use lib.Dec.{eqb}
+use lib.ListN.{getD, set}
+use Rattle.word.specs.Word.{plusAt, joinAt, lowAt, highAt}
+use Rattle.isa.specs.Opcode.{meaning}
+use Rattle.isa.specs.Table.{operationOf}
+use Rattle.isa.specs.declared.opcode.Op.{Op}
+use Rattle.isa.specs.declared.opcode.Op.the-variants.{Illegal, Alu, Compare, Move, Load, Store}
+use Rattle.cpu.specs.State.{F, PC, word, cpu}
+use Rattle.cpu.specs.Addresses.{after, byteAt}
+use Rattle.cpu.specs.Instructions.{computed, compared, Moved, moved, Loaded, loaded, Stored, stored}
+use Rattle.cpu.specs.Exceptions.{due, entered, illegal, settle}
+use Rattle.cpu.specs.declared.state.Cpu.{Cpu}
+use Rattle.cpu.specs.declared.state.Devices.{Devices}
+use Rattle.cpu.specs.declared.step.Done.{Done}
+
+pub record Step : Type 0 where
+  pub cpu : Cpu
+  pub ram : List ℕ
+  pub count : ℕ
+  pub first : ℕ
+  pub bus : ℕ
+
+abbrev pub tells : Cpu → List ℕ → ℕ → ℕ → ℕ → Step
+tells c m n a b = record { cpu = c; ram = m; count = n; first = a; bus = b }
+
+-- nothing written through memory
+abbrev pub quiet : Cpu → List ℕ → ℕ → Step
+quiet c m b = tells c m 0 0 b
+
+-- a legal instruction from its group's answer: "Bus bytes are 2 plus the bytes loaded or stored"; then H and the halted mark by f before it
+abbrev pub onRegs : Cpu → List ℕ → List ℕ → Step
+onRegs c m g = quiet (settle (word (c .regs) F) (cpu g (c .csrs) (c .devices) (c .halted))) m 2
+
+abbrev pub onMoved : Cpu → List ℕ → Moved → Step
+onMoved c m x = quiet (settle (word (c .regs) F) (cpu (x .regs) (x .csrs) (c .devices) (c .halted))) m 2
+
+abbrev pub onLoaded : Cpu → List ℕ → Loaded → Step
+onLoaded c m x = quiet (settle (word (c .regs) F) (cpu (x .regs) (c .csrs) (c .devices) (c .halted))) m (2 + x .bytes)
+
+abbrev pub onStored : Cpu → Stored → Step
+onStored c x =
+    tells (settle (word (c .regs) F) (cpu (x .regs) (c .csrs) (x .bus .devices) (c .halted))) (x .bus .ram) (x .count) (x .first) (2 + x .count)
+
+-- the instruction, by what its opcode o is; d is the destination, s the source
+unfoldable pub executed : Op → Cpu → List ℕ → ℕ → ℕ → ℕ → Step
+executed (Illegal reason) c m o d s = quiet (illegal reason c) m 2
+executed (Alu op) c m o d s = onRegs c m (computed op (c .regs) d s)
+executed (Compare op) c m o d s = onRegs c m (compared op (c .regs) d s)
+executed (Move op) c m o d s = onMoved c m (moved op (c .regs) (c .csrs) o d s)
+executed (Load op) c m o d s = onLoaded c m (loaded op (c .regs) (c .devices) m o d s)
+executed (Store op) c m o d s = onStored c (stored op (c .regs) (c .devices) m d s)
+
+-- "pc gains 2, and the instruction runs. First byte is the opcode; the second has the destination in its upper and the source in its lower four bits."
+abbrev pub past : Cpu → Cpu
+past c = cpu (set (c .regs) PC (plusAt 16 (word (c .regs) PC) 2)) (c .csrs) (c .devices) (c .halted)
+
+unfoldable pub runs : (ℕ → Op) → Cpu → List ℕ → ℕ → ℕ → Step
+runs what c m o b = executed (what o) (past c) m o (highAt 4 b) (lowAt 4 b)
+
+-- "two bytes are read at pc"
+abbrev pub fetched : (ℕ → Op) → Cpu → List ℕ → Step
+fetched what c m = runs what c m (byteAt (c .devices) m (word (c .regs) PC)) (byteAt (c .devices) m (after (word (c .regs) PC)))
+
+-- "ie becomes 0, ia and pc are exchanged, bus bytes 0. That is the whole step"
+abbrev pub interrupted : Cpu → List ℕ → Step
+interrupted c m = quiet (cpu (entered (c .regs)) (c .csrs) (c .devices) (c .halted)) m 0
+
+-- one step, where `what` says for each opcode byte what it is
+unfoldable pub stepBy : (ℕ → Op) → Cpu → List ℕ → Step
+stepBy what c m = cond (due (word (c .regs) F)) (interrupted c m) (fetched what c m)
+
+-- one step by the rules
+abbrev pub stepOf : Cpu → List ℕ → Step
+stepOf c m = stepBy (λ o. meaning o .op) c m
+
+-- what the opcode bytes are by the entries of a decode table
+abbrev pub listed : List ℕ → ℕ → Op
+listed table o = operationOf (getD table o 0)
+
+-- the bytes that a step wrote over: "old first byte + 256·old second (0 where not RAM or not written)"
+unfoldable pub oldBytes : List ℕ → ℕ → ℕ → ℕ
+oldBytes m n a = cond (eqb n 0) 0 (joinAt 8 (word m a) (cond (eqb n 2) (word m (after a)) 0))
+
+-- a step with the bytes that it wrote over
+pub record Told : Type 0 where
+  pub step : Step
+  pub old : ℕ
+
+-- by the rules, from the memory before
+abbrev pub toldOf : List ℕ → Step → Told
+toldOf m x = record { step = x; old = oldBytes m (x .count) (x .first) }
+
+-- by the code: lent registers, CSRs and memory as they are left, and the rest as it is returned
+abbrev pub toldAs : List ℕ → List ℕ → Done → List ℕ → Told
+toldAs g k q m = record { step = tells (cpu g k (q .devices) (q .halted)) m (q .count) (q .first) (q .bus); old = q .old }

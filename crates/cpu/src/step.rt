@@ -1,0 +1,127 @@
+// One step.
+use crate::bus;
+use crate::exceptions;
+use crate::groups;
+use crate::state::Devices;
+use isa::opcode;
+use isa::opcode::Op;
+use isa::register::Reg;
+use word::sums;
+ghost use mathlib.Core.Path.{_≡_};
+ghost use Rattle.word.specs.Word.{lowAt, highAt};
+ghost use Rattle.cpu.specs.State.{cpu};
+ghost use Rattle.cpu.specs.Lent.{quietly};
+ghost use Rattle.cpu.specs.Step.{executed, stepBy, listed, toldOf, toldAs};
+
+const F: usize = Reg::F.number as usize;
+
+const PC: usize = Reg::PC.number as usize;
+
+// What a step leaves, beside the lent registers, CSRs and bytes: the device registers, the halted mark, the bytes written through memory, their
+// first address, the bytes that they wrote over, the bus bytes.
+pub struct Done {
+    pub devices: Devices,
+    pub halted: bool,
+    pub count: u8,
+    pub first: u16,
+    pub old: u16,
+    pub bus: u8,
+}
+
+// Nothing was written through memory.
+fn quiet(devices: Devices, halted: bool, bus: u8) -> Done
+    ensures { λ q. ⌜ q ≡ quietly devices halted bus ⌝ }
+{
+    Done {
+        devices,
+        halted,
+        count: 0,
+        first: 0,
+        old: 0,
+        bus,
+    }
+}
+
+fn execute(
+    regs: &mut [u16; 16],
+    csrs: &mut [u16; 6],
+    ram: &mut [u8],
+    v: Devices,
+    halted: bool,
+    op: Op,
+    opcode: u8,
+    operands: u8,
+) -> Done
+    ensures { λ q. ⌜ toldAs (now (regs .exit)) (now (csrs .exit)) q (now (ram .exit)) ≡ toldOf (now (ram .entry)) (executed op (cpu (now (regs .entry)) (now (csrs .entry)) v halted) (now (ram .entry)) opcode (highAt 4 operands) (lowAt 4 operands)) ⌝ }
+{
+    let before = regs[F];
+    match op {
+        Op::Illegal(reason) => quiet(v, exceptions::raise(regs, csrs, reason, halted), 2),
+        Op::Alu(x) => {
+            groups::compute(regs, x, operands);
+            let f = regs[F];
+            quiet(v, exceptions::settle(csrs, before, f, halted), 2)
+        }
+        Op::Compare(x) => {
+            groups::compare(regs, x, operands);
+            let f = regs[F];
+            quiet(v, exceptions::settle(csrs, before, f, halted), 2)
+        }
+        Op::Move(x) => {
+            groups::transfer(regs, csrs, x, opcode, operands);
+            let f = regs[F];
+            quiet(v, exceptions::settle(csrs, before, f, halted), 2)
+        }
+        Op::Load(x) => {
+            let n = groups::load(regs, v, ram, x, opcode, operands);
+            let f = regs[F];
+            quiet(v, exceptions::settle(csrs, before, f, halted), 2 + n)
+        }
+        Op::Store(x) => {
+            let w = groups::store(regs, v, ram, x, operands);
+            let f = regs[F];
+            let h = exceptions::settle(csrs, before, f, halted);
+            let u = w.devices;
+            Done {
+                devices: u,
+                halted: h,
+                count: w.count,
+                first: w.first,
+                old: w.old,
+                bus: 2 + w.count,
+            }
+        }
+    }
+}
+
+// The table says what each opcode byte is; the entries of isa::opcode::table say it by the rules.
+pub fn step(
+    regs: &mut [u16; 16],
+    csrs: &mut [u16; 6],
+    ram: &mut [u8],
+    v: Devices,
+    halted: bool,
+    table: &[u64; 256],
+) -> Done
+    ensures { λ q. ⌜ toldAs (now (regs .exit)) (now (csrs .exit)) q (now (ram .exit)) ≡ toldOf (now (ram .entry)) (stepBy (listed (now (table .entry))) (cpu (now (regs .entry)) (now (csrs .entry)) v halted) (now (ram .entry))) ⌝ }
+{
+    let f = regs[F];
+    if exceptions::due(f) {
+        exceptions::enter(regs);
+        return quiet(v, halted, 0);
+    }
+    let pc = regs[PC];
+    let first = bus::read_byte(v, ram, pc);
+    let second = bus::read_byte(v, ram, sums::plus(pc, 1));
+    regs[PC] = sums::plus(pc, 2);
+    execute(
+        regs,
+        csrs,
+        ram,
+        v,
+        halted,
+        opcode::operation(table[first as usize]),
+        first,
+        second,
+    )
+}
