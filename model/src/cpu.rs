@@ -27,7 +27,7 @@ pub const PENDING: u16 = 0xfe00;
 /// "csr0: bits 0–7 REASON"
 const REASON: u16 = 0x00ff;
 /// "bit 8 H"
-const H: u16 = 0x0100;
+pub const H: u16 = 0x0100;
 
 /// The flags that computations set.
 const COMPUTED: u16 = alu::Z | alu::C | alu::S | alu::O;

@@ -4,7 +4,9 @@
 mod alu;
 mod bus;
 mod cpu;
+mod journal;
 mod listing;
+mod machine;
 mod names;
 mod opcode;
 mod text;
@@ -13,10 +15,11 @@ mod vectors;
 use std::io::{self, Read, Write};
 use std::process::ExitCode;
 
-use vectors::{images, isa, lines, steps, throughput};
+use vectors::{calls, images, isa, lines, steps, throughput};
 
 const USAGE: &str = "usage: model isa-input | isa-output | text-input | text-output | lines-input N | lines-digest N | \
-                     words-input N | words-digest N | listing | listing-case K | steps-input | steps-output";
+                     words-input N | words-digest N | listing | listing-case K | steps-input | steps-output | \
+                     calls-input | calls-output";
 
 /// The status when there is no such case.
 const NO_CASE: u8 = 1;
@@ -33,6 +36,8 @@ fn main() -> ExitCode {
         ["text-output"] => write(lines::output().as_bytes()),
         ["steps-input"] => write(&steps::input()),
         ["steps-output"] => write(steps::output().as_bytes()),
+        ["calls-input"] => write(&calls::input()),
+        ["calls-output"] => write(calls::output().as_bytes()),
         ["lines-input", passes] => sized(passes, throughput::lines_input),
         ["lines-digest", passes] => sized(passes, |n| throughput::lines_digest(n).into_bytes()),
         ["words-input", passes] => sized(passes, throughput::words_input),

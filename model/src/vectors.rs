@@ -1,11 +1,18 @@
 //! What the vectors are made with: a digest and a generator of pseudo-random
 //! numbers. The vectors themselves are in the files below `vectors`.
 
+pub mod calls;
+mod desk;
+mod edges;
+mod faults;
 pub mod images;
 pub mod isa;
 pub mod lines;
+mod programs;
+mod script;
 pub mod steps;
 pub mod throughput;
+mod walks;
 
 /// A digest of a series of numbers: it starts at 1, and absorbing `x` makes it
 /// `(h * 65599 + x) mod 4294967291`.
