@@ -1,9 +1,8 @@
-// The listing program: an image on standard input, its listing on standard output. All that it prints is `text::image::listing`'s.
+// The listing program: an image on standard input, its listing on standard output. All that it prints is `image::listing`'s.
+use image::Output;
 use libc::STDERR_FILENO;
 use libc::STDIN_FILENO;
 use libc::STDOUT_FILENO;
-use text::image;
-use text::image::Output;
 ghost use mathlib.Core.Path.{_≡_};
 ghost use lib.ListN.{length};
 

@@ -68,7 +68,7 @@ three out a b c i j ei ej h =
 
 -- ---- a key of bytes that are not 0 has those bytes
 
-abbrev pub byteful : List ℕ → Bool
+abbrev byteful : List ℕ → Bool
 byteful [] = true
 byteful (b ∷ bs) = (leb 1 b && leb b 255) && byteful bs
 
@@ -83,11 +83,6 @@ digits-pack (suc k) (b ∷ bs) h e =
     let m : (b + 256 * pack bs) % 256 ≡ b = omega arith in
     let d : (b + 256 * pack bs) / 256 ≡ pack bs = omega arith in
     rw (ne-eqb (b + 256 * pack bs) 0 (omega arith), m, d, digits-pack k bs (omega arith) (right (leb 1 b && leb b 255) (byteful bs) e))
-
--- up to eight bytes that are not 0 are the bytes of their key
-pub key-of : (t : List ℕ) → length t ≤ 8 → byteful t ≡ true → keyText (pack t) ≡ t
-unfolding keyText
-key-of t h e = digits-pack 8 t h e
 
 pack-small : (k : ℕ) (t : List ℕ) → length t ≤ k → byteful t ≡ true → pack t < 256 ^ k
 pack-small zero [] h e = omega arith

@@ -4,4 +4,3 @@ pub mod Reading
 pub mod KeyTexts
 pub mod Returning
 pub mod Unique
-pub mod Lines

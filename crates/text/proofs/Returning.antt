@@ -154,13 +154,13 @@ unlisted w room = go (givesReason2 (w % 256)) (ltb room (length (textOf w)))
     go false true e = apart (refused 10) (refused 11) e (λ z. omega arith)
     go false false e = apart (refused 10) (accepted (length (textOf w))) e (λ z. omega arith)
 
-pub roomy : {A : Type 0} (w : ℕ) → w < 65536 → refused 11 ≡ listSays w 16 → A
+pub roomy : {A : Type 0} (w room : ℕ) → w < 65536 → 16 ≤ room → refused 11 ≡ listSays w room → A
 unfolding listSays
-roomy {A = A} w h = go (givesReason2 (w % 256)) (ltb 16 (length (textOf w))) refl
+roomy {A = A} w room h k = go (givesReason2 (w % 256)) (ltb room (length (textOf w))) refl
   where
-    go : (r t : Bool) → ltb 16 (length (textOf w)) ≡ t → refused 11 ≡ cond r (refused 10) (cond t (refused 11) (accepted (length (textOf w)))) → A
+    go : (r t : Bool) → ltb room (length (textOf w)) ≡ t → refused 11 ≡ cond r (refused 10) (cond t (refused 11) (accepted (length (textOf w)))) → A
     go true t l e = apart (refused 11) (refused 10) e (λ z. omega arith)
-    go false true l e = let m = ltb-true 16 (length (textOf w)) l in let s = sixteen w h in absurd (omega arith)
+    go false true l e = let m = ltb-true room (length (textOf w)) l in let s = sixteen w h in absurd (omega arith)
     go false false l e = apart (refused 11) (accepted (length (textOf w))) e (λ z. omega arith)
 
 -- the text that listing left, assembled

@@ -4,4 +4,3 @@ pub mod Line
 pub mod Grammar
 pub mod Assembling
 pub mod Places
-pub mod Image

@@ -1,6 +1,5 @@
 // Text of instructions: listing a word, assembling a line, and there and back.
 pub mod assemble;
-pub mod image;
 mod line;
 pub mod list;
 pub mod trip;

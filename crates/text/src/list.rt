@@ -30,7 +30,7 @@ fn operand(is_csr: bool, n: u8) -> u64
 }
 
 // What stands between the mnemonic and the comma, as a key.
-pub(crate) fn first_key(code: u8, n: u8) -> u64
+fn first_key(code: u8, n: u8) -> u64
     requires { ⌜ n < 16 ⌝ }
     ensures { λ r. ⌜ keyText r ≡ 32 ∷ operandName (firstIsCsr code) n ⌝ }
 {
@@ -38,7 +38,7 @@ pub(crate) fn first_key(code: u8, n: u8) -> u64
 }
 
 // What stands from the comma on.
-pub(crate) fn second_key(code: u8, n: u8) -> u64
+fn second_key(code: u8, n: u8) -> u64
     requires { ⌜ n < 16 ⌝ }
     ensures { λ r. ⌜ keyText r ≡ 44 ∷ 32 ∷ operandName (secondIsCsr code) n ⌝ }
 {
@@ -46,7 +46,7 @@ pub(crate) fn second_key(code: u8, n: u8) -> u64
 }
 
 // The bytes of a key, first byte lowest, stored from `at` on; the place after them.
-pub(crate) fn put(out: &mut [u8], at: usize, key: u64) -> usize
+fn put(out: &mut [u8], at: usize, key: u64) -> usize
     requires { ⌜ at + length (keyText key) ≤ length (now out) ⌝ }
     ensures { λ r. ⌜ (r ≡ at + length (keyText key)) × (now (out .exit) ≡ sets (now (out .entry)) at (keyText key)) ⌝ }
 {

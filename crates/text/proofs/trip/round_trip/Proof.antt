@@ -55,7 +55,7 @@ returns-3 : tie.Need-returns-3
 returns-3 c = rw (unlisted (c .before .before .before .before .before .args .word) 16 (ap listedAs (sym (c .enum-told .given .1)) ∙ c .before .before .before .list .ensures .0))
 
 returns-4 : tie.Need-returns-4
-returns-4 c = roomy (c .before .before .before .before .before .args .word) (omega arith) (ap listedAs (sym (c .enum-told2 .given .1)) ∙ c .before .before .before .list .ensures .0)
+returns-4 c = roomy (c .before .before .before .before .before .args .word) 16 (omega arith) (omega arith) (ap listedAs (sym (c .enum-told2 .given .1)) ∙ c .before .before .before .list .ensures .0)
 
 pub round-trip-spec : {M : Type 1} → statement M
 round-trip-spec =
