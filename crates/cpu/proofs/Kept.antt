@@ -5,7 +5,7 @@ use mathlib.Core.List.{List, [], _∷_}
 use Prim.Native.Nat.{ℕ, zero, suc, _+_, _/_, _%_, _^_, _≤_, _<_}
 use native.Mathlib.Omega.{arith}
 use lib.Dec.{ltb, eqb}
-use lib.ListN.{length, set, length-set}
+use lib.ListN.{length, set, length-set, replicate}
 use Rattle.word.specs.Word.{joinAt, lowAt, highAt}
 use Rattle.word.proofs.Width.{low-below, high-below, join-below, plus-below, minus-below}
 use Rattle.word.proofs.Digits.{below}
@@ -22,7 +22,7 @@ use Rattle.isa.specs.declared.opcode.StoreOp.the-variants.{Sto, Stob, Ddsto}
 use Rattle.isa.specs.declared.opcode.Op.{Op}
 use Rattle.isa.specs.declared.opcode.Op.the-variants.{Illegal, Alu, Compare, Move, Load, Store}
 use Rattle.isa.proofs.Tables.{reason-small}
-use Rattle.cpu.specs.State.{F, IA, PC, word, cpu}
+use Rattle.cpu.specs.State.{F, IA, PC, word, cpu, reset}
 use Rattle.cpu.specs.Addresses.{after, deviceByte, byteAt, wordAt, sending, acknowledged, deviceAfter, Bus, bus, putByte, putWord}
 use Rattle.cpu.specs.Instructions.{flagged, computed, compared, csrRead, csrWritten, Moved, both, moved, Loaded, loads, loaded, loadedWord, plus2, minus2, Stored, stores, stored}
 use Rattle.cpu.specs.Exceptions.{pending, due, entered, illegal, turnedOn, settle, settledCsrs}
@@ -235,3 +235,17 @@ step-good {c} {m} r gm =
 
     b : ℕ
     b = byteAt (c .devices) m (after (word (c .regs) PC))
+
+-- the starting state is good
+pub reset-good : Good reset
+unfolding reset
+reset-good = record {
+  regs = record { long = refl; words = record { at = zeros 16 } };
+  csrs = record { long = refl; words = record { at = zeros 6 }; csr0 = omega arith };
+  devices = record { clock = omega arith; rxd = omega arith; txd = omega arith };
+}
+  where
+    zeros : (n i : ℕ) → word (replicate n 0) i < 2 ^ 16
+    zeros zero i = omega arith
+    zeros (suc n) zero = omega arith
+    zeros (suc n) (suc i) = zeros n i

@@ -2,12 +2,13 @@
 use mathlib.Core.Path.{_≡_, refl, sym, _∙_, ap}
 use mathlib.Core.Bool.{Bool, true, false}
 use mathlib.Core.List.{List}
-use Prim.Native.Nat.{ℕ, _+_, _/_, _%_}
+use Prim.Native.Nat.{ℕ, _+_, _/_, _%_, _<_}
 use lib.ListN.{getD, set}
 use Rattle.word.specs.Word.{plusAt, lowAt, highAt}
 use Rattle.alu.specs.declared.AluOp.{AluOp}
 use Rattle.alu.specs.declared.CompareOp.{CompareOp}
-use Rattle.isa.specs.Table.{operationOf}
+use Rattle.isa.specs.Table.{operationOf, TellsAll}
+use Rattle.isa.proofs.Tables.{tells-op}
 use Rattle.isa.specs.declared.opcode.MoveOp.{MoveOp}
 use Rattle.isa.specs.declared.opcode.LoadOp.{LoadOp}
 use Rattle.isa.specs.declared.opcode.StoreOp.{StoreOp}
@@ -17,7 +18,7 @@ use Rattle.cpu.specs.State.{F, PC, word, cpu}
 use Rattle.cpu.specs.Addresses.{after, byteAt}
 use Rattle.cpu.specs.Instructions.{computed, compared, Moved, both, moved, Loaded, loads, loaded, Stored, stored}
 use Rattle.cpu.specs.Exceptions.{due, entered, illegal, settle, settledCsrs, settledHalt}
-use Rattle.cpu.specs.Step.{Step, tells, quiet, onRegs, onMoved, onLoaded, onStored, executed, past, runs, stepBy, listed, oldBytes, Told, toldOf, toldAs}
+use Rattle.cpu.specs.Step.{Step, tells, quiet, onRegs, onMoved, onLoaded, onStored, executed, past, runs, stepBy, stepOf, listed, oldBytes, Told, toldOf, toldAs}
 use Rattle.cpu.specs.Lent.{Over, overOf, overAs, quietly}
 use Rattle.cpu.specs.declared.state.Cpu.{Cpu}
 use Rattle.cpu.specs.declared.state.Devices.{Devices}
@@ -103,3 +104,13 @@ module _ (g k : List ℕ) (v : Devices) (h : Bool) (m table : List ℕ) where
       → x ≡ toldOf m (executed op (cpu (set g PC p) k v h) m o (highAt 4 b) (lowAt 4 b)) → x ≡ stepped
   unfolding stepBy runs
   fetches o n b p u op x a f e₁ e₂ e₃ e₄ e₅ e₆ = e₆ ∙ rw (e₅, e₄, e₃, e₂, e₁, sym a ∙ f)
+
+  -- a table that tells the rules: stepping by it is stepping by the rules
+  pub ruled : (o : ℕ) → o ≡ byteAt v m (word g PC) → o < 256 → TellsAll table → stepped ≡ toldOf m (stepOf (cpu g k v h) m)
+  unfolding stepBy runs
+  ruled o e l t = rw (sym e, tells-op table t o l)
+
+  -- an interrupt's step asks nothing of the table
+  pub entry-ruled : (u : Bool) → u ≡ due (word g F) → u ≡ true → stepped ≡ toldOf m (stepOf (cpu g k v h) m)
+  unfolding stepBy
+  entry-ruled u a b = rw (sym a ∙ b)

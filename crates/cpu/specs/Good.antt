@@ -31,8 +31,8 @@ pub record Good (c : Cpu) : Type 0 where
   pub csrs : GoodCsrs (c .csrs)
   pub devices : GoodDevices (c .devices)
 
--- what n bytes written from address a on make of the memory m: only those bytes change, and of them only those in RAM
-pub data Changed (a : ℕ) (m : List ℕ) : ℕ → List ℕ → Type 0 where
-  none : Changed a m 0 m
-  one : (x : ℕ) → Changed a m 1 (set m a x)
-  two : (x y : ℕ) → Changed a m 2 (set (set m a x) (after a) y)
+-- what the memory m becomes by n bytes written from address a on: only those bytes change, and of them only those in RAM; with no byte a is 0
+pub data Changed (m : List ℕ) : ℕ → ℕ → List ℕ → Type 0 where
+  none : Changed m 0 0 m
+  one : (a x : ℕ) → Changed m a 1 (set m a x)
+  two : (a x y : ℕ) → Changed m a 2 (set (set m a x) (after a) y)

@@ -8,10 +8,11 @@ use isa::opcode::Op;
 use isa::register::Reg;
 use word::sums;
 ghost use mathlib.Core.Path.{_≡_};
+ghost use Rattle.isa.specs.Table.{TellsAll};
 ghost use Rattle.word.specs.Word.{lowAt, highAt};
 ghost use Rattle.cpu.specs.State.{cpu};
 ghost use Rattle.cpu.specs.Lent.{quietly};
-ghost use Rattle.cpu.specs.Step.{executed, stepBy, listed, toldOf, toldAs};
+ghost use Rattle.cpu.specs.Step.{executed, stepBy, stepOf, listed, toldOf, toldAs};
 
 const F: usize = Reg::F.number as usize;
 
@@ -94,7 +95,7 @@ fn execute(
     }
 }
 
-// The table says what each opcode byte is; the entries of isa::opcode::table say it by the rules.
+// By the rules, if the table tells them, as that of isa::opcode::table does; by what the table says in any case.
 pub fn step(
     regs: &mut [u16; 16],
     csrs: &mut [u16; 6],
@@ -104,6 +105,7 @@ pub fn step(
     table: &[u64; 256],
 ) -> Done
     ensures { λ q. ⌜ toldAs (now (regs .exit)) (now (csrs .exit)) q (now (ram .exit)) ≡ toldOf (now (ram .entry)) (stepBy (listed (now (table .entry))) (cpu (now (regs .entry)) (now (csrs .entry)) v halted) (now (ram .entry))) ⌝ }
+    ensures by_rules { λ q. ⌜ (TellsAll (now (table .entry)) → toldAs (now (regs .exit)) (now (csrs .exit)) q (now (ram .exit)) ≡ toldOf (now (ram .entry)) (stepOf (cpu (now (regs .entry)) (now (csrs .entry)) v halted) (now (ram .entry)))) ⌝ }
 {
     let f = regs[F];
     if exceptions::due(f) {

@@ -1,3 +1,6 @@
+use Rattle.cpu.proofs.Steps.{entry-ruled, ruled}
+use mathlib.Core.Path.{_∙_}
+use native.Mathlib.Omega.{arith}
 use Rattle.cpu.proofs.Steps.{interrupts, fetches}
 use denote.Ref.{now}
 use borrow.Author.Needs.{needs}
@@ -17,7 +20,8 @@ quiet-requires : tie.Need-quiet-requires
 quiet-requires c κs = search needs
 
 returns : tie.Need-returns
-returns c = interrupts (now (c .before .before .before .before .before .before .before .args .regs)) (now (c .before .before .before .before .before .before .before .args .csrs)) (c .before .before .before .before .before .before .before .args .v) (c .before .before .before .before .before .before .before .args .halted) (now (c .before .before .before .before .before .before .before .args .ram)) (now (c .before .before .before .before .before .before .before .args .table)) _ _ _ (c .before .before .before .before .due .ensures) (c .before .before .before .if1 .taken) (c .before .enter .ensures) (c .quiet .ensures)
+returns c = let e = interrupts (now (c .before .before .before .before .before .before .before .args .regs)) (now (c .before .before .before .before .before .before .before .args .csrs)) (c .before .before .before .before .before .before .before .args .v) (c .before .before .before .before .before .before .before .args .halted) (now (c .before .before .before .before .before .before .before .args .ram)) (now (c .before .before .before .before .before .before .before .args .table)) _ _ _ (c .before .before .before .before .due .ensures) (c .before .before .before .if1 .taken) (c .before .enter .ensures) (c .quiet .ensures) in
+    (e, λ t. e ∙ entry-ruled (now (c .before .before .before .before .before .before .before .args .regs)) (now (c .before .before .before .before .before .before .before .args .csrs)) (c .before .before .before .before .before .before .before .args .v) (c .before .before .before .before .before .before .before .args .halted) (now (c .before .before .before .before .before .before .before .args .ram)) (now (c .before .before .before .before .before .before .before .args .table)) _ (c .before .before .before .before .due .ensures) (c .before .before .before .if1 .taken))
 
 element-copy-out-pc : tie.Need-element-copy-out-pc
 element-copy-out-pc c = search needs
@@ -56,7 +60,8 @@ same-length : tie.Need-same-length
 same-length c = search needs
 
 returns-2 : tie.Need-returns-2
-returns-2 c = fetches (now (c .before .before .before .before .before .before .before .before .before .before .before .before .before .before .before .before .before .before .before .args .regs)) (now (c .before .before .before .before .before .before .before .before .before .before .before .before .before .before .before .before .before .before .before .args .csrs)) (c .before .before .before .before .before .before .before .before .before .before .before .before .before .before .before .before .before .before .before .args .v) (c .before .before .before .before .before .before .before .before .before .before .before .before .before .before .before .before .before .before .before .args .halted) (now (c .before .before .before .before .before .before .before .before .before .before .before .before .before .before .before .before .before .before .before .args .ram)) (now (c .before .before .before .before .before .before .before .before .before .before .before .before .before .before .before .before .before .before .before .args .table)) _ _ _ _ _ _ _ (c .before .before .before .before .before .before .before .before .before .before .before .before .before .before .before .before .due .ensures) (c .before .before .before .before .before .before .before .before .before .before .before .before .before .before .before .if1 .left) (c .before .before .before .before .before .before .before .before .before .before .before .before .read-byte .ensures) (c .before .before .before .before .before .before .before .before .before .before .plus .ensures) (c .before .before .before .before .before .before .before .before .before .read-byte2 .ensures) (c .before .before .before .before .before .before .before .before .plus2 .ensures) (c .before .before .before .operation .ensures) (c .before .before .execute .ensures)
+returns-2 c = let e = fetches (now (c .before .before .before .before .before .before .before .before .before .before .before .before .before .before .before .before .before .before .before .args .regs)) (now (c .before .before .before .before .before .before .before .before .before .before .before .before .before .before .before .before .before .before .before .args .csrs)) (c .before .before .before .before .before .before .before .before .before .before .before .before .before .before .before .before .before .before .before .args .v) (c .before .before .before .before .before .before .before .before .before .before .before .before .before .before .before .before .before .before .before .args .halted) (now (c .before .before .before .before .before .before .before .before .before .before .before .before .before .before .before .before .before .before .before .args .ram)) (now (c .before .before .before .before .before .before .before .before .before .before .before .before .before .before .before .before .before .before .before .args .table)) _ _ _ _ _ _ _ (c .before .before .before .before .before .before .before .before .before .before .before .before .before .before .before .before .due .ensures) (c .before .before .before .before .before .before .before .before .before .before .before .before .before .before .before .if1 .left) (c .before .before .before .before .before .before .before .before .before .before .before .before .read-byte .ensures) (c .before .before .before .before .before .before .before .before .before .before .plus .ensures) (c .before .before .before .before .before .before .before .before .before .read-byte2 .ensures) (c .before .before .before .before .before .before .before .before .plus2 .ensures) (c .before .before .before .operation .ensures) (c .before .before .execute .ensures) in
+    (e, λ t. e ∙ ruled (now (c .before .before .before .before .before .before .before .before .before .before .before .before .before .before .before .before .before .before .before .args .regs)) (now (c .before .before .before .before .before .before .before .before .before .before .before .before .before .before .before .before .before .before .before .args .csrs)) (c .before .before .before .before .before .before .before .before .before .before .before .before .before .before .before .before .before .before .before .args .v) (c .before .before .before .before .before .before .before .before .before .before .before .before .before .before .before .before .before .before .before .args .halted) (now (c .before .before .before .before .before .before .before .before .before .before .before .before .before .before .before .before .before .before .before .args .ram)) (now (c .before .before .before .before .before .before .before .before .before .before .before .before .before .before .before .before .before .before .before .args .table)) _ (c .before .before .before .before .before .before .before .before .before .before .before .before .read-byte .ensures) (omega arith) t)
 
 pub step-spec : {M : Type 1} → statement M
 step-spec =

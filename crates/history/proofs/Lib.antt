@@ -1,0 +1,7 @@
+pub mod PutBack
+pub mod Exact
+pub mod Pushing
+pub mod RingLaws
+pub mod Variable
+pub mod Runs
+pub mod Copying

@@ -1,0 +1,206 @@
+-- From what the parts of a call leave to what the call answers.
+use Prim.Native.Nat.{ℕ, zero, suc, _+_, _-_, _*_, _/_, _%_, _≤_, _<_}
+use mathlib.Core.Path.{_≡_, refl, sym, _∙_, ap}
+use mathlib.Core.Bool.{Bool, true, false, cond, _&&_, _||_}
+use mathlib.Core.List.{List}
+use mathlib.Core.Option.{Option, some, none}
+use mathlib.Core.Logic.{_⊎_, inl, inr, ⊎-elim}
+use native.Mathlib.Omega.{arith}
+use native.Mathlib.Nat.{add-zero}
+use borrow.Author.Tests.{lt-ltb, le-ltb, leb-true, ltb-true, eqb-true}
+use lib.Dec.{leb, ltb, eqb}
+use lib.ListN.{length, set}
+use Rattle.word.specs.Word.{joinAt}
+use Rattle.cpu.specs.State.{word}
+use Rattle.cpu.specs.declared.state.Cpu.{Cpu}
+use Rattle.history.specs.Undo.{restored}
+use Rattle.history.specs.Trace.{Box, Effect, Next, refuses, gives, Undo, undo, undoOf, Popped, denies, hands, World, no-run, Answer as AnswerOf, answers, refusal, Call, give, back, gave, backed, guarded, plain, ran, after}
+use Rattle.history.specs.Ring.{Ring, ringOf, slotBefore, slotWords, pushed, popped, poppedAt, slots, ring, readable}
+use Rattle.history.proofs.Copying.{before-below}
+use Rattle.machine.specs.Record.{recordWith, recordOf, undoFrom, sound, decoded, undoAs}
+use Rattle.machine.specs.Inputs.{Input, step, tick, receive, sent, setRegister, poke, resets, box, quietly, ticked, received, sentOff, registerSet, nextOf, stepsOf, machine}
+use Rattle.machine.specs.Calls.{W, ramFits, journalFits, stateFits, firstOf, checked, checkOf, answerOf, worldOf, replied, refuse, ranAs}
+use Rattle.machine.specs.declared.state.Machine.{Machine as MachineT}
+use Rattle.machine.specs.declared.state.Reply.{Reply}
+use Rattle.machine.specs.declared.record.Before.{Before}
+use Rattle.machine.specs.declared.running.Ended.{Ended}
+
+abbrev pub at : Box Cpu → Ring → W
+at b j = record { box = b; journal = j }
+
+abbrev pub plainly : Call Input → W → AnswerOf Cpu Ring
+plainly = plain machine (ring recordOf decoded)
+
+abbrev pub gives-by : W → ℕ → Next Cpu → AnswerOf Cpu Ring
+gives-by = gave machine (ring recordOf decoded)
+
+-- a call on a machine with its memory and its journal, and the number of the first check that fails
+module _ (m : MachineT) (ram ws : List ℕ) (n : ℕ) (e : n ≡ checkOf (worldOf m ram ws)) where
+  abbrev w : W
+  w = worldOf m ram ws
+
+  refusing : (c : Call Input) (n : ℕ) → (n ≡ 0 → ⊥) → guarded n w (plainly c w) ≡ refusal n w
+  refusing c zero h = absurd (h refl)
+  refusing c (suc n) h = refl
+
+  pub fails : (c : Call Input) (r : Reply) → (n ≡ 0 → ⊥) → r ≡ refuse m n → answerOf c w ≡ replied r ram ws
+  fails c r h s = ap (λ (x : ℕ). guarded x w (plainly c w)) (sym e) ∙ refusing c n h ∙ ap (λ (x : Reply). replied x ram ws) (sym s)
+
+  module _ (z : n ≡ 0) where
+    pub passes : (c : Call Input) → answerOf c w ≡ plainly c w
+    passes c = ap (λ (x : ℕ). guarded x w (plainly c w)) (sym e ∙ z)
+
+    given : (i : Input) (x : Next Cpu) → nextOf i (box (m .cpu) ram) ≡ x → answerOf (give i) w ≡ gives-by w (stepsOf i) x
+    given i x q = passes (give i) ∙ ap (λ (y : Next Cpu). gives-by w (stepsOf i) y) q
+
+    -- its own refusal
+    pub denied : (i : Input) (k : ℕ) (r : Reply) → nextOf i (box (m .cpu) ram) ≡ refuses k → r ≡ refuse m k → answerOf (give i) w ≡ replied r ram ws
+    denied i k r q s = given i (refuses k) q ∙ ap (λ (x : Reply). replied x ram ws) (sym s)
+
+    -- an accepted input that writes nothing through memory
+    pub taken : (i : Input) (c : Cpu) (y : List ℕ → AnswerOf Cpu Ring) → stepsOf i ≡ 0 → nextOf i (box (m .cpu) ram) ≡ quietly c ram
+        → ((l : List ℕ) → gives-by (worldOf m l ws) 0 (quietly c l) ≡ y l) → answerOf (give i) w ≡ y ram
+    taken i c y k q s = given i (quietly c ram) q ∙ ap (λ (z : ℕ). gives-by w z (quietly c ram)) k ∙ s ram
+
+    pub poked : (a x old : ℕ) (ws′ : List ℕ) (next held : ℕ) → a < length ram → old ≡ joinAt 8 (word ram a) 0
+        → ringOf ws′ next held ≡ pushed (slots ws) (recordWith (m .cpu) 1 a old) (ringOf ws (m .next) (m .held))
+        → answerOf (give (poke a x)) w ≡ answers 0 0 0 no-run (at (box (m .cpu) (set ram a x)) (ringOf ws′ next held))
+    unfolding nextOf
+    poked a x old ws′ next held l o j =
+        given (poke a x) (nextOf (poke a x) (box (m .cpu) ram)) refl
+        ∙ rw (lt-ltb a (length ram) l) (ap (λ (y : Ring). answers 0 0 0 no-run (at (box (m .cpu) (set ram a x)) y)) (sym (rw o at j)))
+
+    pub ran-as : (k : ℕ) (r : Ended) (ram′ ws′ : List ℕ) → ran machine (ring recordOf decoded) k w ≡ ranAs r ram′ ws′ → answerOf (Call.run k) w ≡ ranAs r ram′ ws′
+    ran-as k r ram′ ws′ s = passes (Call.run k) ∙ s
+
+-- an accepted input that writes nothing, from its record
+pub accepted : (m : MachineT) (c : Cpu) (ws ws′ : List ℕ) (next held : ℕ)
+    → ringOf ws′ next held ≡ pushed (slots ws) (recordWith (m .cpu) 0 0 0) (ringOf ws (m .next) (m .held))
+    → (ram : List ℕ) → gives-by (worldOf m ram ws) 0 (quietly c ram) ≡ answers 0 0 0 no-run (at (box c ram) (ringOf ws′ next held))
+accepted m c ws ws′ next held e ram = ap (λ (j : Ring). answers 0 0 0 no-run (at (box c ram) j)) (sym e)
+
+-- what the rules give for each input
+module _ (b : Box Cpu) (c : Cpu) where
+  pub ticks : c ≡ ticked (b .cpu) → nextOf tick b ≡ quietly c (b .ram)
+  unfolding nextOf
+  ticks e = rw e
+
+  pub receives : (x : ℕ) → b .cpu .devices .r ≡ false → c ≡ received x (b .cpu) → nextOf (receive x) b ≡ quietly c (b .ram)
+  unfolding nextOf
+  receives x h e = ap (λ (t : Bool). cond t (refuses 5) (quietly (received x (b .cpu)) (b .ram))) h ∙ ap (λ (y : Cpu). quietly y (b .ram)) (sym e)
+
+  pub sends : b .cpu .devices .t ≡ false → c ≡ sentOff (b .cpu) → nextOf sent b ≡ quietly c (b .ram)
+  unfolding nextOf
+  sends h e = ap (λ (t : Bool). cond t (refuses 5) (quietly (sentOff (b .cpu)) (b .ram))) h ∙ ap (λ (y : Cpu). quietly y (b .ram)) (sym e)
+
+  pub sets : (i x : ℕ) → i < 16 → c ≡ registerSet i x (b .cpu) → nextOf (setRegister i x) b ≡ quietly c (b .ram)
+  unfolding nextOf
+  sets i x h e = rw (lt-ltb i 16 h, e)
+
+module _ (b : Box Cpu) where
+  pub receives-not : (x : ℕ) → b .cpu .devices .r ≡ true → nextOf (receive x) b ≡ refuses 5
+  unfolding nextOf
+  receives-not x h = rw h
+
+  pub sends-not : b .cpu .devices .t ≡ true → nextOf sent b ≡ refuses 5
+  unfolding nextOf
+  sends-not h = rw h
+
+  pub sets-not : (i x : ℕ) → 16 ≤ i → nextOf (setRegister i x) b ≡ refuses 6
+  unfolding nextOf
+  sets-not i x h = rw (le-ltb i 16 h)
+
+  pub pokes-not : (a x : ℕ) → length (b .ram) ≤ a → nextOf (poke a x) b ≡ refuses 7
+  unfolding nextOf
+  pokes-not a x h = rw (le-ltb a (length (b .ram)) h)
+
+-- what the checks say of the journal's counts, where they pass
+clash : {A : Type 0} → false ≡ true → A
+clash e = let z : _≡_ {A = ℕ} 0 1 = cc in absurd (omega arith)
+
+third : (a b c : Bool) → firstOf a b c ≡ 0 → c ≡ true
+third true true true e = refl
+third true true false e = absurd (omega (arith, e))
+third true false c e = absurd (omega (arith, e))
+third false b c e = absurd (omega (arith, e))
+
+left-true : (a b : Bool) → (a && b) ≡ true → a ≡ true
+left-true true b e = refl
+left-true false b e = e
+
+right-true : (a b : Bool) → (a && b) ≡ true → b ≡ true
+right-true true b e = e
+right-true false b e = clash e
+
+either-true : (a b : Bool) → (a || b) ≡ true → (a ≡ true) ⊎ (b ≡ true)
+either-true true b e = inl refl
+either-true false b e = inr e
+
+pub record Sits (n next held : ℕ) : Type 0 where
+  pub held-in : held ≤ n
+  pub next-in : (next < n) ⊎ ((n ≡ 0) × (next ≡ 0))
+
+pub sits : (ram words csr0 next held n : ℕ) → n ≡ checked ram words csr0 next held → n ≡ 0 → Sits (words / 32) next held
+unfolding checked
+sits ram words csr0 next held n e z =
+    let t = third (ramFits ram) (journalFits words) (stateFits (words / 32) csr0 next held) (sym e ∙ z) in
+    let u = right-true (leb csr0 511) _ t in
+    record {
+      held-in = leb-true held (words / 32) (left-true (leb held (words / 32)) _ u);
+      next-in = ⊎-elim (λ a. inl (ltb-true next (words / 32) a))
+          (λ a. inr (eqb-true (words / 32) 0 (left-true (eqb (words / 32) 0) (eqb next 0) a), eqb-true next 0 (right-true (eqb (words / 32) 0) (eqb next 0) a)))
+          (either-true (ltb next (words / 32)) _ (right-true (leb held (words / 32)) _ u));
+    }
+
+-- where a record is held, the newest one's slot is a slot
+pub newest-in : (n next held : ℕ) → Sits n next held → 0 < held → slotBefore n next < n
+newest-in n next held s h = ⊎-elim (λ a. before-below n next a) (λ a. absurd (omega (arith, a .0, s .held-in))) (s .next-in)
+
+-- a step back, from what its parts leave
+module _ (m : MachineT) (ram ws : List ℕ) where
+  abbrev v : W
+  v = worldOf m ram ws
+
+  pub none-held : (r : Reply) → m .held ≡ 0 → r ≡ refuse m 8 → plainly back v ≡ replied r ram ws
+  none-held r h s =
+      ap (λ (x : ℕ). backed machine (ring recordOf decoded) v (poppedAt decoded (slotBefore (slots ws) (m .next)) x (ringOf ws (m .next) (m .held)))) h
+      ∙ ap (λ (x : Reply). replied x ram ws) (sym s)
+
+  -- what the journal hands back, where a record is held
+  pops : (n : ℕ) (k : ℕ) (x : Option (Undo Cpu)) (j : Ring) → 0 < n → decoded (slotWords (j .words) k) ≡ x → poppedAt decoded k n j ≡ popped k x j
+  pops zero k x j h e = absurd (omega arith)
+  pops (suc n) k x j h e = ap (λ (y : Option (Undo Cpu)). popped k y j) e
+
+  module _ (slot : ℕ) (words : List ℕ) (e₁ : slot ≡ slotBefore (slots ws) (m .next)) (e₂ : words ≡ readable ws slot)
+      (l : slotBefore (slots ws) (m .next) < slots ws) (h : 0 < m .held) where
+    here : words ≡ slotWords ws (slotBefore (slots ws) (m .next))
+    unfolding readable
+    here = e₂ ∙ rw (e₁, lt-ltb (slotBefore (slots ws) (m .next)) (slots ws) l)
+
+    popping : (x : Option (Undo Cpu)) → decoded words ≡ x
+        → plainly back v ≡ backed machine (ring recordOf decoded) v (popped (slotBefore (slots ws) (m .next)) x (ringOf ws (m .next) (m .held)))
+    popping x d =
+        ap (backed machine (ring recordOf decoded) v)
+        (pops (m .held) (slotBefore (slots ws) (m .next)) x (ringOf ws (m .next) (m .held)) h (ap decoded (sym here) ∙ d))
+
+    pub unsound : (r : Reply) (t : Bool) → t ≡ sound words → t ≡ false → r ≡ refuse m 9 → plainly back v ≡ replied r ram ws
+    unfolding decoded
+    unsound r t e f s = popping none (rw (sym e ∙ f)) ∙ ap (λ (x : Reply). replied x ram ws) (sym s)
+
+    pub restores : (t : Bool) (b : Before) (ram′ : List ℕ) → t ≡ sound words → t ≡ true → undoFrom words ≡ undoAs b
+        → ram′ ≡ restored (b .count) (b .at) (b .low) (b .high) ram
+        → plainly back v ≡ answers 0 0 0 no-run (at (box (b .cpu) ram′) (ringOf ws slot (m .held - 1)))
+    unfolding decoded
+    restores t b ram′ e f d r =
+        popping (some (undoAs b)) (rw (sym e ∙ f, d)) ∙ rw (r, e₁)
+
+-- a lone step, from a run of one
+pub alone : (m : MachineT) (ram ws : List ℕ) (r : Ended) (ram′ ws′ : List ℕ) (x : Effect Cpu) → nextOf step (box (m .cpu) ram) ≡ gives x
+    → ran machine (ring recordOf decoded) 1 (worldOf m ram ws) ≡ ranAs r ram′ ws′
+    → plainly (give step) (worldOf m ram ws) ≡ answers 0 1 (r .run .bus) no-run (worldOf (r .machine) ram′ ws′)
+alone m ram ws r ram′ ws′ x q s =
+    let t = rw q at s in
+    rw q (ap (λ (b : ℕ). answers 0 1 b no-run (after machine (ring recordOf decoded) (worldOf m ram ws) x)) (sym (add-zero (x .bus))) ∙ ap (λ (a : AnswerOf Cpu Ring). answers 0 1 (a .bus) no-run (a .world)) t)
+
+pub two-more : (n : ℕ) → (n ≡ 0 → ⊥) → (n ≡ 1 → ⊥) → 1 < n
+two-more n a b = omega arith

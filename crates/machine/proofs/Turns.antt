@@ -1,0 +1,107 @@
+-- One turn of a run: a step, its record, and what is left of the run.
+use Prim.Native.Nat.{ℕ, _+_, _-_, _*_, _≤_, _<_}
+use mathlib.Core.Path.{_≡_, refl, sym, _∙_, ap}
+use mathlib.Core.Bool.{Bool, true, false}
+use mathlib.Core.List.{List}
+use native.Mathlib.Omega.{arith}
+use lib.ListN.{length}
+use Rattle.cpu.specs.State.{cpu}
+use Rattle.cpu.specs.Step.{Step, tells, stepOf, oldBytes, Told, toldOf, toldAs}
+use Rattle.cpu.specs.Good.{Changed, none, one, two}
+use Rattle.cpu.specs.declared.state.Cpu.{Cpu}
+use Rattle.cpu.specs.declared.state.Devices.{Devices}
+use Rattle.cpu.specs.declared.step.Done.{Done}
+use Rattle.cpu.proofs.Touched.{step-changes}
+use Rattle.isa.specs.Opcode.{meaning}
+use Rattle.history.specs.Trace.{Box, Effect, Next, refuses, gives, undoOf, World, Answer as AnswerOf, answers, stopped, budget as spent, ran, after}
+use Rattle.history.specs.Ring.{Ring, ringOf, pushed, slots, ring}
+use Rattle.history.proofs.Runs.{plus, ran-start, ran-more, ran-stopped, ran-done}
+use Rattle.machine.specs.Record.{recordWith, recordOf, decoded}
+use Rattle.machine.specs.Inputs.{step, box, effect, stepped, nextOf, machine}
+use Rattle.machine.specs.Calls.{W}
+use Rattle.machine.proofs.Answering.{at}
+
+-- the record of a step, from what the step tells
+recorded : (c : Cpu) (m : List ℕ) {a n : ℕ} {m′ : List ℕ} → Changed m a n m′ → recordWith c n a (oldBytes m n a) ≡ recordOf (undoOf (box c m) n a)
+unfolding oldBytes
+recorded c m none = refl
+recorded c m (one a x) = refl
+recorded c m (two a x y) = refl
+
+pub step-goes : (b : Box Cpu) → b .cpu .halted ≡ false → nextOf step b ≡ gives (stepped (b .ram) (stepOf (b .cpu) (b .ram)))
+unfolding nextOf
+step-goes b h = rw h
+
+pub step-stops : (b : Box Cpu) → b .cpu .halted ≡ true → nextOf step b ≡ refuses 4
+unfolding nextOf
+step-stops b h = rw h
+
+-- registers, CSRs, devices, halted mark, memory, journal words, next slot and records held
+abbrev pub world : List ℕ → List ℕ → Devices → Bool → List ℕ → List ℕ → ℕ → ℕ → W
+world g k v h m ws next held = at (box (cpu g k v h) m) (ringOf ws next held)
+
+abbrev pub runs : ℕ → W → AnswerOf Cpu Ring
+runs n w = ran machine (ring recordOf decoded) n w
+
+abbrev pub more : ℕ → ℕ → AnswerOf Cpu Ring → AnswerOf Cpu Ring
+more s b x = plus machine (ring recordOf decoded) s b x
+
+-- a run under way: so many steps and bus bytes so far, and from where it stands the rest gives what the whole gives
+pub record Going (budget : ℕ) (start : AnswerOf Cpu Ring) (n b : ℕ) (w : W) : Type 0 where
+  pub within : n ≤ budget
+  pub small : b ≤ 255 * n
+  pub rest : more n b (runs (budget - n) w) ≡ start
+
+module _ (g k : List ℕ) (v : Devices) (h : Bool) (m ws : List ℕ) (next held : ℕ) where
+  abbrev c : Cpu
+  c = cpu g k v h
+
+  abbrev w : W
+  w = world g k v h m ws next held
+
+  -- the world after a step, from what its parts leave
+  goes-on : (q : Done) (g′ k′ m′ r ws′ : List ℕ) (next′ held′ : ℕ)
+      → toldAs g′ k′ q m′ ≡ toldOf m (stepOf c m)
+      → r ≡ recordWith c (q .count) (q .first) (q .old)
+      → ringOf ws′ next′ held′ ≡ pushed (slots ws) r (ringOf ws next held)
+      → world g′ k′ (q .devices) (q .halted) m′ ws′ next′ held′ ≡ after machine (ring recordOf decoded) w (stepped m (stepOf c m))
+  goes-on q g′ k′ m′ r ws′ next′ held′ e er ej =
+      let x : Step = stepOf c m in
+      let s : tells (cpu g′ k′ (q .devices) (q .halted)) m′ (q .count) (q .first) (q .bus) ≡ x = ap (λ (y : Told). y .step) e in
+      let o : q .old ≡ oldBytes m (x .count) (x .first) = ap (λ (y : Told). y .old) e in
+      let rr : r ≡ recordOf (undoOf (box c m) (x .count) (x .first)) =
+      er ∙ ap (λ (y : ℕ). recordWith c (q .count) (q .first) y) o
+      ∙ ap (λ (y : Step). recordWith c (y .count) (y .first) (oldBytes m (x .count) (x .first))) s
+      ∙ recorded c m (step-changes (λ i. meaning i .op) c m)
+      in
+      ap (λ (y : Step). at (box (y .cpu) (y .ram)) (ringOf ws′ next′ held′)) s
+      ∙ ap (λ (j : Ring). at (box (x .cpu) (x .ram)) j) (ej ∙ ap (λ (y : List ℕ). pushed (slots ws) y (ringOf ws next held)) rr)
+
+  pub turn : (budget n b : ℕ) (start : AnswerOf Cpu Ring) (q : Done) (g′ k′ m′ r ws′ : List ℕ) (next′ held′ : ℕ)
+      → h ≡ false → (n ≡ budget → ⊥) → q .bus ≤ 255
+      → toldAs g′ k′ q m′ ≡ toldOf m (stepOf c m)
+      → r ≡ recordWith c (q .count) (q .first) (q .old)
+      → ringOf ws′ next′ held′ ≡ pushed (slots ws) r (ringOf ws next held)
+      → Going budget start n b w
+      → Going budget start (n + 1) (b + q .bus) (world g′ k′ (q .devices) (q .halted) m′ ws′ next′ held′)
+  turn budget n b start q g′ k′ m′ r ws′ next′ held′ hh ne few e er ej i =
+      let l : n < budget = omega (arith, i .within, ne) in
+      let eb : q .bus ≡ stepOf c m .bus = ap (λ (y : Told). y .step .bus) e in
+      record {
+        within = omega arith;
+        small = omega (arith, i .small);
+        rest =
+            ap (λ (y : ℕ). more (n + 1) (b + y) (runs (budget - (n + 1)) (world g′ k′ (q .devices) (q .halted) m′ ws′ next′ held′))) eb
+            ∙ ap (λ (y : W). more (n + 1) (b + stepOf c m .bus) (runs (budget - (n + 1)) y)) (goes-on q g′ k′ m′ r ws′ next′ held′ e er ej)
+            ∙ sym (ran-more machine (ring recordOf decoded) budget n b w (stepped m (stepOf c m)) l (step-goes (box c m) hh)) ∙ i .rest;
+      }
+
+  pub begin : (budget : ℕ) → Going budget (runs budget w) 0 0 w
+  begin budget = record { within = omega arith; small = omega arith; rest = sym (ran-start machine (ring recordOf decoded) budget w) }
+
+  pub halts : (budget n b : ℕ) (start : AnswerOf Cpu Ring) → h ≡ true → Going budget start n b w → start ≡ answers 0 n b stopped w
+  halts budget n b start hh i = sym (i .rest) ∙ ran-stopped machine (ring recordOf decoded) (budget - n) 4 n b w (step-stops (box c m) hh)
+
+  pub ends : (budget n b : ℕ) (start : AnswerOf Cpu Ring) → h ≡ false → n ≡ budget → Going budget start n b w → start ≡ answers 0 n b spent w
+  ends budget n b start hh e i =
+      sym (i .rest) ∙ ran-done machine (ring recordOf decoded) budget n b w (stepped m (stepOf c m)) (omega (arith, e)) (step-goes (box c m) hh)

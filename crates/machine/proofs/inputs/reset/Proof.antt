@@ -1,0 +1,43 @@
+use Rattle.machine.proofs.Answering.{fails, taken}
+use denote.Ref.{now}
+use mathlib.Core.Path.{refl}
+use Rattle.machine.specs.Inputs.{resets}
+use Rattle.history.specs.Trace.{give}
+use Rattle.machine.specs.Inputs.{nextOf}
+use borrow.Author.Needs.{needs}
+use Rattle.machine.proofs.inputs.reset.Statement.{statement}
+use Rattle.machine.proofs.inputs.reset.Tie as tie
+
+check-of-requires : tie.Need-check-of-requires
+check-of-requires c κs = search needs
+
+refused-requires : tie.Need-refused-requires
+refused-requires c κs = search needs
+
+returns : tie.Need-returns
+returns c = fails (c .before .before .before .before .before .args .m) (now (c .before .before .before .before .before .args .ram)) (now (c .before .before .before .before .before .args .journal)) _ (c .before .before .check-of .ensures) (give resets) _ (c .before .if1 .taken) (c .refused .ensures)
+
+reset-requires : tie.Need-reset-requires
+reset-requires c κs = search needs
+
+accept-requires : tie.Need-accept-requires
+accept-requires c κs = search needs
+
+same-length : tie.Need-same-length
+same-length c = search needs
+
+returns-2 : tie.Need-returns-2
+unfolding nextOf
+returns-2 c = taken (c .before .before .before .before .before .before .before .before .before .args .m) (now (c .before .before .before .before .before .before .before .before .before .args .ram)) (now (c .before .before .before .before .before .before .before .before .before .args .journal)) _ (c .before .before .before .before .before .before .check-of .ensures) (c .before .before .before .before .before .if1 .left) resets _ _ refl (rw (c .before .before .before .before .reset .ensures)) (c .before .before .accept .ensures)
+
+pub reset-spec : {M : Type 1} → statement M
+reset-spec =
+    tie.close
+    (tie.spec
+    check-of-requires
+    refused-requires
+    returns
+    reset-requires
+    accept-requires
+    same-length
+    returns-2)

@@ -1,0 +1,42 @@
+use Rattle.machine.proofs.Answering.{fails, taken}
+use denote.Ref.{now}
+use mathlib.Core.Path.{refl}
+use Rattle.machine.specs.Inputs.{box, tick}
+use Rattle.history.specs.Trace.{give}
+use Rattle.machine.proofs.Answering.{ticks}
+use borrow.Author.Needs.{needs}
+use Rattle.machine.proofs.inputs.tick.Statement.{statement}
+use Rattle.machine.proofs.inputs.tick.Tie as tie
+
+check-of-requires : tie.Need-check-of-requires
+check-of-requires c κs = search needs
+
+refused-requires : tie.Need-refused-requires
+refused-requires c κs = search needs
+
+returns : tie.Need-returns
+returns c = fails (c .before .before .before .before .before .args .m) (now (c .before .before .before .before .before .args .ram)) (now (c .before .before .before .before .before .args .journal)) _ (c .before .before .check-of .ensures) (give tick) _ (c .before .if1 .taken) (c .refused .ensures)
+
+ticked-requires : tie.Need-ticked-requires
+ticked-requires c κs = search needs
+
+accept-requires : tie.Need-accept-requires
+accept-requires c κs = search needs
+
+same-length : tie.Need-same-length
+same-length c = search needs
+
+returns-2 : tie.Need-returns-2
+returns-2 c = taken (c .before .before .before .before .before .before .before .before .before .args .m) (now (c .before .before .before .before .before .before .before .before .before .args .ram)) (now (c .before .before .before .before .before .before .before .before .before .args .journal)) _ (c .before .before .before .before .before .before .check-of .ensures) (c .before .before .before .before .before .if1 .left) tick _ _ refl (ticks (box (c .before .before .before .before .before .before .before .before .before .args .m .cpu) (now (c .before .before .before .before .before .before .before .before .before .args .ram))) _ (c .before .before .before .before .ticked .ensures)) (c .before .before .accept .ensures)
+
+pub tick-spec : {M : Type 1} → statement M
+tick-spec =
+    tie.close
+    (tie.spec
+    check-of-requires
+    refused-requires
+    returns
+    ticked-requires
+    accept-requires
+    same-length
+    returns-2)

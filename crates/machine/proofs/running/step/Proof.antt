@@ -1,0 +1,51 @@
+use Rattle.machine.proofs.Answering.{fails, denied, taken, passes}
+use denote.Ref.{now}
+use mathlib.Core.Path.{_∙_}
+use Rattle.machine.specs.Inputs.{box, step}
+use Rattle.history.specs.Trace.{give}
+use Rattle.machine.proofs.Answering.{alone}
+use Rattle.machine.proofs.Turns.{step-goes, step-stops}
+use borrow.Author.Needs.{needs}
+use Rattle.machine.proofs.running.step.Statement.{statement}
+use Rattle.machine.proofs.running.step.Tie as tie
+
+check-of-requires : tie.Need-check-of-requires
+check-of-requires c κs = search needs
+
+refused-requires : tie.Need-refused-requires
+refused-requires c κs = search needs
+
+returns : tie.Need-returns
+returns c = fails (c .before .before .before .before .before .args .m) (now (c .before .before .before .before .before .args .ram)) (now (c .before .before .before .before .before .args .journal)) _ (c .before .before .check-of .ensures) (give step) _ (c .before .if1 .taken) (c .refused .ensures)
+
+refused-requires-2 : tie.Need-refused-requires-2
+refused-requires-2 c κs = search needs
+
+returns-2 : tie.Need-returns-2
+returns-2 c = denied (c .before .before .before .before .before .before .args .m) (now (c .before .before .before .before .before .before .args .ram)) (now (c .before .before .before .before .before .before .args .journal)) _ (c .before .before .before .check-of .ensures) (c .before .before .if1 .left) step 4 _ (step-stops (box (c .before .before .before .before .before .before .args .m .cpu) (now (c .before .before .before .before .before .before .args .ram))) (c .before .if2 .taken)) (c .refused2 .ensures)
+
+advance-requires : tie.Need-advance-requires
+advance-requires c κs = search needs
+
+same-length : tie.Need-same-length
+same-length c = search needs
+
+same-length-2 : tie.Need-same-length-2
+same-length-2 c = search needs
+
+returns-3 : tie.Need-returns-3
+returns-3 c = passes (c .before .before .before .before .before .before .before .before .before .before .before .before .before .args .m) (now (c .before .before .before .before .before .before .before .before .before .before .before .before .before .args .ram)) (now (c .before .before .before .before .before .before .before .before .before .before .before .before .before .args .journal)) _ (c .before .before .before .before .before .before .before .before .before .before .check-of .ensures) (c .before .before .before .before .before .before .before .before .before .if1 .left) (give step) ∙ alone (c .before .before .before .before .before .before .before .before .before .before .before .before .before .args .m) (now (c .before .before .before .before .before .before .before .before .before .before .before .before .before .args .ram)) (now (c .before .before .before .before .before .before .before .before .before .before .before .before .before .args .journal)) (c .before .before .before .before .before .advance .result) _ _ _ (step-goes (box (c .before .before .before .before .before .before .before .before .before .before .before .before .before .args .m .cpu) (now (c .before .before .before .before .before .before .before .before .before .before .before .before .before .args .ram))) (c .before .before .before .before .before .before .before .before .if2 .left)) (c .before .before .before .before .before .advance .ensures)
+
+pub step-spec : {M : Type 1} → statement M
+step-spec =
+    tie.close
+    (tie.spec
+    check-of-requires
+    refused-requires
+    returns
+    refused-requires-2
+    returns-2
+    advance-requires
+    same-length
+    same-length-2
+    returns-3)

@@ -1,0 +1,74 @@
+-- "Numbered answers": what each call answers, and how the code's answers stand for it.
+use Prim.Native.Nat.{ℕ, _+_, _*_, _/_, _%_}
+use mathlib.Core.Bool.{Bool, true, false, cond, _&&_, _||_}
+use mathlib.Core.List.{List}
+use lib.Dec.{leb, ltb, eqb}
+use lib.ListN.{length}
+use Rattle.cpu.specs.State.{word}
+use Rattle.cpu.specs.declared.state.Cpu.{Cpu}
+use Rattle.history.specs.Trace.{Box, World, Cause, no-run, budget, stopped, Answer as AnswerOf, answers, Call, answer}
+use Rattle.history.specs.Ring.{Ring, ringOf, ring, slots}
+use Rattle.machine.specs.Record.{recordOf, decoded}
+use Rattle.machine.specs.Inputs.{Input, box, machine}
+use Rattle.machine.specs.declared.state.Machine.{Machine as MachineT}
+use Rattle.machine.specs.declared.state.Stop.{Stop}
+use Rattle.machine.specs.declared.state.Stop.the-variants.{Halted, Budget}
+use Rattle.machine.specs.declared.state.Answer.{Answer}
+use Rattle.machine.specs.declared.state.Answer.the-variants.{Accepted, Stepped, Ran, Refused}
+use Rattle.machine.specs.declared.state.Reply.{Reply}
+use Rattle.machine.specs.declared.running.Ended.{Ended}
+
+abbrev pub W : Type 0
+W = World Cpu Ring
+
+-- 1: "RAM longer than 65,504"
+abbrev pub ramFits : ℕ → Bool
+ramFits ram = leb ram 65504
+
+-- 2: "journal length no multiple of 32, or over 32,768"
+abbrev pub journalFits : ℕ → Bool
+journalFits words = eqb (words % 32) 0 && leb words 32768
+
+-- 3: "csr0 over 511; held over slots; next not below slots (with no slots: next not 0)"
+abbrev pub stateFits : ℕ → ℕ → ℕ → ℕ → Bool
+stateFits n csr0 next held = leb csr0 511 && (leb held n && (ltb next n || (eqb n 0 && eqb next 0)))
+
+-- "A call on the machine checks 1, 2, 3, then its own": the first that fails, or 0
+abbrev pub firstOf : Bool → Bool → Bool → ℕ
+firstOf a b c = cond a (cond b (cond c 0 3) 2) 1
+
+unfoldable pub checked : ℕ → ℕ → ℕ → ℕ → ℕ → ℕ
+checked ram words csr0 next held = firstOf (ramFits ram) (journalFits words) (stateFits (words / 32) csr0 next held)
+
+abbrev pub checkOf : W → ℕ
+checkOf w = checked (length (w .box .ram)) (length (w .journal .words)) (word (w .box .cpu .csrs) 0) (w .journal .next) (w .journal .held)
+
+-- what a call answers
+abbrev pub answerOf : Call Input → W → AnswerOf Cpu Ring
+answerOf = answer machine (ring recordOf decoded) checkOf
+
+-- machine, RAM and journal words
+abbrev pub worldOf : MachineT → List ℕ → List ℕ → W
+worldOf m ram ws = record { box = box (m .cpu) ram; journal = ringOf ws (m .next) (m .held) }
+
+-- the paper's number and values for each case of an answer
+abbrev pub causeIs : Stop → Cause
+causeIs Halted = stopped
+causeIs Budget = budget
+
+abbrev pub saidBy : Answer → W → AnswerOf Cpu Ring
+saidBy Accepted w = answers 0 0 0 no-run w
+saidBy (Stepped bus) w = answers 0 1 bus no-run w
+saidBy (Ran r) w = answers 0 (r .steps) (r .bus) (causeIs (r .stop)) w
+saidBy (Refused n) w = answers n 0 0 no-run w
+
+abbrev pub replied : Reply → List ℕ → List ℕ → AnswerOf Cpu Ring
+replied r ram ws = saidBy (r .answer) (worldOf (r .machine) ram ws)
+
+-- a refusal as the code has it
+abbrev pub refuse : MachineT → ℕ → Reply
+refuse m n = record { answer = Refused n; machine = m }
+
+-- a run as the code has it
+abbrev pub ranAs : Ended → List ℕ → List ℕ → AnswerOf Cpu Ring
+ranAs r ram ws = answers 0 (r .run .steps) (r .run .bus) (causeIs (r .run .stop)) (worldOf (r .machine) ram ws)

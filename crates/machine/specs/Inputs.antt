@@ -1,0 +1,81 @@
+-- "Inputs": what each gives, or the number of its own refusal.
+use Prim.Native.Nat.{ℕ, _^_}
+use mathlib.Core.Bool.{Bool, true, false, cond, not, _&&_}
+use mathlib.Core.List.{List}
+use lib.Dec.{ltb, eqb}
+use lib.ListN.{length, set}
+use Rattle.word.specs.Word.{plusAt, joinAt, lowAt}
+use Rattle.word.specs.Bits.{bitAt, orAt}
+use Rattle.cpu.specs.State.{F, word, cpu, devices, reset}
+use Rattle.cpu.specs.Step.{Step, stepOf}
+use Rattle.cpu.specs.declared.state.Cpu.{Cpu}
+use Rattle.cpu.specs.declared.state.Devices.{Devices}
+use Rattle.history.specs.Trace.{Box, Effect, Next, refuses, gives, Machine}
+
+pub data Input : Type 0 where
+  step : Input
+  tick : Input
+  receive : ℕ → Input
+  sent : Input
+  setRegister : ℕ → ℕ → Input
+  poke : ℕ → ℕ → Input
+  resets : Input
+
+abbrev pub box : Cpu → List ℕ → Box Cpu
+box c m = record { cpu = c; ram = m }
+
+abbrev pub effect : Cpu → List ℕ → ℕ → ℕ → ℕ → Effect Cpu
+effect c m n a b = record { box = box c m; count = n; at = a; bus = b }
+
+-- an input that writes nothing through memory
+abbrev pub quietly : Cpu → List ℕ → Next Cpu
+quietly c m = gives (effect c m 0 0 0)
+
+-- "f bit .. set, H=1": by a device, with its registers as they are afterwards
+unfoldable pub signalled : ℕ → Devices → Cpu → Cpu
+signalled bits v c =
+    cpu (set (c .regs) F (orAt 16 (word (c .regs) F) bits)) (set (c .csrs) 0 (joinAt 8 (lowAt 8 (word (c .csrs) 0)) 1)) v (c .halted)
+
+-- "Tick: counter plus 1 modulo 65,536, f bit 10 set, H=1."
+abbrev pub ticked : Cpu → Cpu
+ticked c = signalled 0x0400 (devices (plusAt 16 (c .devices .clock) 1) (c .devices .rxd) (c .devices .txd) (c .devices .r) (c .devices .t)) c
+
+-- "Receive a byte: .. RXD takes it, R=1, f bit 11 set, H=1."
+abbrev pub received : ℕ → Cpu → Cpu
+received b c = signalled 0x0800 (devices (c .devices .clock) b (c .devices .txd) true (c .devices .t)) c
+
+-- "Sent: .. T=1, f bit 11 set, H=1."
+abbrev pub sentOff : Cpu → Cpu
+sentOff c = signalled 0x0800 (devices (c .devices .clock) (c .devices .rxd) (c .devices .txd) (c .devices .r) true) c
+
+-- "Set register: any number 0–15, any 16-bit content. If it is f and bit 9 is 0, the halted mark clears. H isn't touched."
+unfoldable pub registerSet : ℕ → ℕ → Cpu → Cpu
+registerSet i w c = cpu (set (c .regs) i w) (c .csrs) (c .devices) (cond (eqb i F && not (bitAt w 9)) false (c .halted))
+
+-- "Step: see below"
+abbrev pub stepped : List ℕ → Step → Effect Cpu
+stepped m x = effect (x .cpu) (x .ram) (x .count) (x .first) (x .bus)
+
+-- 4: "lone step while halted"; 5: "Receive while R=1, or Sent while T=1"; 6: "register number over 15"; 7: "Poke at no RAM address"
+unfoldable pub nextOf : Input → Box Cpu → Next Cpu
+nextOf step b = cond (b .cpu .halted) (refuses 4) (gives (stepped (b .ram) (stepOf (b .cpu) (b .ram))))
+nextOf tick b = quietly (ticked (b .cpu)) (b .ram)
+nextOf (receive x) b = cond (b .cpu .devices .r) (refuses 5) (quietly (received x (b .cpu)) (b .ram))
+nextOf sent b = cond (b .cpu .devices .t) (refuses 5) (quietly (sentOff (b .cpu)) (b .ram))
+nextOf (setRegister i w) b = cond (ltb i 16) (quietly (registerSet i w (b .cpu)) (b .ram)) (refuses 6)
+nextOf (poke a x) b = cond (ltb a (length (b .ram))) (gives (effect (b .cpu) (set (b .ram) a x) 1 a 0)) (refuses 7)
+-- "Reset .. RAM as it is"
+nextOf resets b = quietly reset (b .ram)
+
+-- a lone step counts as one, every other input as none
+abbrev pub stepsOf : Input → ℕ
+stepsOf step = 1
+stepsOf tick = 0
+stepsOf (receive x) = 0
+stepsOf sent = 0
+stepsOf (setRegister i w) = 0
+stepsOf (poke a x) = 0
+stepsOf resets = 0
+
+abbrev pub machine : Machine
+machine = record { C = Cpu; I = Input; step = step; steps = stepsOf; next = nextOf }

@@ -1,0 +1,7 @@
+// The calls on the machine: inputs, run, step back, with the journal and the numbered refusals.
+pub mod back;
+mod checks;
+pub mod inputs;
+mod record;
+pub mod running;
+pub mod state;
