@@ -57,7 +57,7 @@ first-kept : (k : List ℕ) (i x : ℕ) → word (set k (suc i) x) 0 ≡ word k 
 first-kept [] i x = refl
 first-kept (y ∷ k) i x = refl
 
-csr0-set : {k : List ℕ} {x : ℕ} → GoodCsrs k → x ≤ 511 → GoodCsrs (set k 0 x)
+pub csr0-set : {k : List ℕ} {x : ℕ} → GoodCsrs k → x ≤ 511 → GoodCsrs (set k 0 x)
 csr0-set {k} {x} r h = record {
   long = length-set k 0 x ∙ r .long;
   words = within-set 16 0 (r .words) (omega arith);

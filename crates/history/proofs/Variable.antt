@@ -5,7 +5,7 @@ use mathlib.Core.List.{List, [], _∷_}
 use native.Mathlib.Numerals.{add-one}
 use lib.ListN.{length, take}
 use Rattle.history.specs.Trace.{Box, Machine, Undo, Store, World, Call, trail, play, fresh, Exactly, Popped, denies, hands}
-use Rattle.history.proofs.Exact.{Ruly, Keeping, Hist, newest, exact}
+use Rattle.history.proofs.Exact.{Ruly, Keeping, Hist, AllApt, newest, exact}
 
 -- of the newest n + 1 records of the inputs, as many as the journal keeps
 abbrev pub keptOf : (M : Machine) → Box (M .C) → (List (Undo (M .C)) → ℕ) → List (M .I) → ℕ → ℕ
@@ -19,7 +19,7 @@ module _ (M : Machine) (Fine : Undo (M .C) → Type 0) (L : Ruly M Fine) (s : Bo
   grows i is b u us h =
       ap (λ (l : List (Undo (M .C))). length (take (N .kept l) l)) (newest M Fine L s h ∙ ap (λ (k : ℕ). take k (trail M s (i ∷ is))) (sym (add-one (length us))))
 
-  pub exact-kept : L .Good s → (j : K .J) → N .Holds j [] → (cs : List (Call (M .I))) → Exactly M K check s (play M K check (keptOf M s (N .kept)) cs (fresh M K check s j))
+  pub exact-kept : L .Good s → (j : K .J) → N .Holds j [] → (cs : List (Call (M .I))) → AllApt M Fine L cs → Exactly M K check s (play M K check (keptOf M s (N .kept)) cs (fresh M K check s j))
   exact-kept = exact M Fine L s K N (keptOf M s (N .kept)) grows check passes
 
 -- the simplest journal: the list of the records itself, cut by any rule

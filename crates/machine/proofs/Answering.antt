@@ -19,8 +19,10 @@ use Rattle.history.specs.Ring.{Ring, ringOf, slotBefore, slotWords, pushed, pop
 use Rattle.history.proofs.Copying.{before-below}
 use Rattle.machine.specs.Record.{recordWith, recordOf, undoFrom, sound, decoded, undoAs}
 use Rattle.machine.specs.Inputs.{Input, step, tick, receive, sent, setRegister, poke, resets, box, quietly, ticked, received, sentOff, registerSet, nextOf, stepsOf, machine}
-use Rattle.machine.specs.Calls.{W, ramFits, journalFits, stateFits, firstOf, checked, checkOf, answerOf, worldOf, replied, refuse, ranAs}
+use Rattle.machine.specs.Calls.{W, ramFits, journalFits, stateFits, firstOf, checked, checkOf, answerOf, worldOf, numberOf, firstRefusal, replied, refuse, ranAs}
 use Rattle.machine.specs.declared.state.Machine.{Machine as MachineT}
+use Rattle.machine.specs.declared.state.Refusal.{Refusal}
+use Rattle.machine.specs.declared.state.Refusal.the-variants as Refusal
 use Rattle.machine.specs.declared.state.Reply.{Reply}
 use Rattle.machine.specs.declared.record.Before.{Before}
 use Rattle.machine.specs.declared.running.Ended.{Ended}
@@ -34,6 +36,18 @@ plainly = plain machine (ring recordOf decoded)
 abbrev pub gives-by : W → ℕ → Next Cpu → AnswerOf Cpu Ring
 gives-by = gave machine (ring recordOf decoded)
 
+-- the first check that fails has the number of its refusal
+first-numbered : (a b c : Bool) → (firstOf a b c ≡ 0 → ⊥) → numberOf (firstRefusal (firstOf a b c)) ≡ firstOf a b c
+first-numbered true true true h = absurd (h refl)
+first-numbered true true false h = refl
+first-numbered true false c h = refl
+first-numbered false b c h = refl
+
+numbered : (ram ws : List ℕ) (m : MachineT) (n : ℕ) → n ≡ checkOf (worldOf m ram ws) → (n ≡ 0 → ⊥) → numberOf (firstRefusal n) ≡ n
+unfolding checked
+numbered ram ws m n e h =
+    rw e (first-numbered (ramFits (length ram)) (journalFits (length ws)) (stateFits (slots ws) (word (m .cpu .csrs) 0) (m .next) (m .held)) (λ z. h (e ∙ z)))
+
 -- a call on a machine with its memory and its journal, and the number of the first check that fails
 module _ (m : MachineT) (ram ws : List ℕ) (n : ℕ) (e : n ≡ checkOf (worldOf m ram ws)) where
   abbrev w : W
@@ -43,8 +57,10 @@ module _ (m : MachineT) (ram ws : List ℕ) (n : ℕ) (e : n ≡ checkOf (worldO
   refusing c zero h = absurd (h refl)
   refusing c (suc n) h = refl
 
-  pub fails : (c : Call Input) (r : Reply) → (n ≡ 0 → ⊥) → r ≡ refuse m n → answerOf c w ≡ replied r ram ws
-  fails c r h s = ap (λ (x : ℕ). guarded x w (plainly c w)) (sym e) ∙ refusing c n h ∙ ap (λ (x : Reply). replied x ram ws) (sym s)
+  pub fails : (c : Call Input) (r : Reply) → (n ≡ 0 → ⊥) → r ≡ refuse m (firstRefusal n) → answerOf c w ≡ replied r ram ws
+  fails c r h s =
+      ap (λ (x : ℕ). guarded x w (plainly c w)) (sym e) ∙ refusing c n h ∙ ap (λ (x : ℕ). refusal x w) (sym (numbered ram ws m n e h))
+      ∙ ap (λ (x : Reply). replied x ram ws) (sym s)
 
   module _ (z : n ≡ 0) where
     pub passes : (c : Call Input) → answerOf c w ≡ plainly c w
@@ -54,8 +70,9 @@ module _ (m : MachineT) (ram ws : List ℕ) (n : ℕ) (e : n ≡ checkOf (worldO
     given i x q = passes (give i) ∙ ap (λ (y : Next Cpu). gives-by w (stepsOf i) y) q
 
     -- its own refusal
-    pub denied : (i : Input) (k : ℕ) (r : Reply) → nextOf i (box (m .cpu) ram) ≡ refuses k → r ≡ refuse m k → answerOf (give i) w ≡ replied r ram ws
-    denied i k r q s = given i (refuses k) q ∙ ap (λ (x : Reply). replied x ram ws) (sym s)
+    pub denied : (i : Input) (why : Refusal) (r : Reply) → nextOf i (box (m .cpu) ram) ≡ refuses (numberOf why) → r ≡ refuse m why
+        → answerOf (give i) w ≡ replied r ram ws
+    denied i why r q s = given i (refuses (numberOf why)) q ∙ ap (λ (x : Reply). replied x ram ws) (sym s)
 
     -- an accepted input that writes nothing through memory
     pub taken : (i : Input) (c : Cpu) (y : List ℕ → AnswerOf Cpu Ring) → stepsOf i ≡ 0 → nextOf i (box (m .cpu) ram) ≡ quietly c ram
@@ -161,7 +178,7 @@ module _ (m : MachineT) (ram ws : List ℕ) where
   abbrev v : W
   v = worldOf m ram ws
 
-  pub none-held : (r : Reply) → m .held ≡ 0 → r ≡ refuse m 8 → plainly back v ≡ replied r ram ws
+  pub none-held : (r : Reply) → m .held ≡ 0 → r ≡ refuse m Refusal.NoRecord → plainly back v ≡ replied r ram ws
   none-held r h s =
       ap (λ (x : ℕ). backed machine (ring recordOf decoded) v (poppedAt decoded (slotBefore (slots ws) (m .next)) x (ringOf ws (m .next) (m .held)))) h
       ∙ ap (λ (x : Reply). replied x ram ws) (sym s)
@@ -183,7 +200,7 @@ module _ (m : MachineT) (ram ws : List ℕ) where
         ap (backed machine (ring recordOf decoded) v)
         (pops (m .held) (slotBefore (slots ws) (m .next)) x (ringOf ws (m .next) (m .held)) h (ap decoded (sym here) ∙ d))
 
-    pub unsound : (r : Reply) (t : Bool) → t ≡ sound words → t ≡ false → r ≡ refuse m 9 → plainly back v ≡ replied r ram ws
+    pub unsound : (r : Reply) (t : Bool) → t ≡ sound words → t ≡ false → r ≡ refuse m Refusal.BadRecord → plainly back v ≡ replied r ram ws
     unfolding decoded
     unsound r t e f s = popping none (rw (sym e ∙ f)) ∙ ap (λ (x : Reply). replied x ram ws) (sym s)
 

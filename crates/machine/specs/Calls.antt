@@ -13,6 +13,8 @@ use Rattle.machine.specs.Inputs.{Input, box, machine}
 use Rattle.machine.specs.declared.state.Machine.{Machine as MachineT}
 use Rattle.machine.specs.declared.state.Stop.{Stop}
 use Rattle.machine.specs.declared.state.Stop.the-variants.{Halted, Budget}
+use Rattle.machine.specs.declared.state.Refusal.{Refusal}
+use Rattle.machine.specs.declared.state.Refusal.the-variants as Refusal
 use Rattle.machine.specs.declared.state.Answer.{Answer}
 use Rattle.machine.specs.declared.state.Answer.the-variants.{Accepted, Stepped, Ran, Refused}
 use Rattle.machine.specs.declared.state.Reply.{Reply}
@@ -51,6 +53,22 @@ answerOf = answer machine (ring recordOf decoded) checkOf
 abbrev pub worldOf : MachineT → List ℕ → List ℕ → W
 worldOf m ram ws = record { box = box (m .cpu) ram; journal = ringOf ws (m .next) (m .held) }
 
+-- the paper's number for each refusal
+abbrev pub numberOf : Refusal → ℕ
+numberOf Refusal.RamTooLong = 1
+numberOf Refusal.BadJournal = 2
+numberOf Refusal.BadState = 3
+numberOf Refusal.Halted = 4
+numberOf Refusal.NotReady = 5
+numberOf Refusal.NoRegister = 6
+numberOf Refusal.NotRam = 7
+numberOf Refusal.NoRecord = 8
+numberOf Refusal.BadRecord = 9
+
+-- the refusal of the first check that fails, by its number
+abbrev pub firstRefusal : ℕ → Refusal
+firstRefusal n = cond (eqb n 1) Refusal.RamTooLong (cond (eqb n 2) Refusal.BadJournal Refusal.BadState)
+
 -- the paper's number and values for each case of an answer
 abbrev pub causeIs : Stop → Cause
 causeIs Halted = stopped
@@ -60,14 +78,14 @@ abbrev pub saidBy : Answer → W → AnswerOf Cpu Ring
 saidBy Accepted w = answers 0 0 0 no-run w
 saidBy (Stepped bus) w = answers 0 1 bus no-run w
 saidBy (Ran r) w = answers 0 (r .steps) (r .bus) (causeIs (r .stop)) w
-saidBy (Refused n) w = answers n 0 0 no-run w
+saidBy (Refused why) w = answers (numberOf why) 0 0 no-run w
 
 abbrev pub replied : Reply → List ℕ → List ℕ → AnswerOf Cpu Ring
 replied r ram ws = saidBy (r .answer) (worldOf (r .machine) ram ws)
 
 -- a refusal as the code has it
-abbrev pub refuse : MachineT → ℕ → Reply
-refuse m n = record { answer = Refused n; machine = m }
+abbrev pub refuse : MachineT → Refusal → Reply
+refuse m why = record { answer = Refused why; machine = m }
 
 -- a run as the code has it
 abbrev pub ranAs : Ended → List ℕ → List ℕ → AnswerOf Cpu Ring

@@ -3,6 +3,7 @@ use crate::checks;
 use crate::record;
 use crate::state::Answer;
 use crate::state::Machine;
+use crate::state::Refusal;
 use crate::state::Reply;
 use word::sums;
 ghost use mathlib.Core.Path.{_≡_};
@@ -40,11 +41,11 @@ pub fn step_back(m: Machine, ram: &mut [u8], journal: &[u16]) -> Reply
 {
     let n = checks::check_of(m, ram.len(), journal.len());
     if n != 0 {
-        return checks::refused(m, n);
+        return checks::failed(m, n);
     }
     let held = m.held;
     if held == 0 {
-        return checks::refused(m, 8);
+        return checks::refused(m, Refusal::NoRecord);
     }
     let slot = history::newest(journal.len() / 32, m.next);
     let words = history::read_slot(journal, slot);
@@ -61,5 +62,5 @@ pub fn step_back(m: Machine, ram: &mut [u8], journal: &[u16]) -> Reply
             },
         };
     }
-    checks::refused(m, 9)
+    checks::refused(m, Refusal::BadRecord)
 }

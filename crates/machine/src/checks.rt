@@ -1,9 +1,10 @@
 // Refusals 1, 2 and 3, which every call checks first.
 use crate::state::Answer;
 use crate::state::Machine;
+use crate::state::Refusal;
 use crate::state::Reply;
 ghost use mathlib.Core.Path.{_≡_};
-ghost use Rattle.machine.specs.Calls.{firstOf, checked, refuse};
+ghost use Rattle.machine.specs.Calls.{firstOf, checked, firstRefusal, refuse};
 ghost use Rattle.cpu.specs.State.{word as wordIn};
 
 fn rank(a: bool, b: bool, c: bool) -> u8
@@ -34,11 +35,24 @@ pub fn check_of(m: Machine, ram: usize, words: usize) -> u8
     check(ram, words, csrs[0], m.next, m.held)
 }
 
-pub fn refused(m: Machine, number: u8) -> Reply
-    ensures { λ r. ⌜ r ≡ refuse m number ⌝ }
+pub fn refused(m: Machine, why: Refusal) -> Reply
+    ensures { λ r. ⌜ r ≡ refuse m why ⌝ }
 {
     Reply {
-        answer: Answer::Refused(number),
+        answer: Answer::Refused(why),
         machine: m,
     }
+}
+
+// The refusal of the first check that fails.
+pub fn failed(m: Machine, number: u8) -> Reply
+    ensures { λ r. ⌜ r ≡ refuse m (firstRefusal number) ⌝ }
+{
+    if number == 1 {
+        return refused(m, Refusal::RamTooLong);
+    }
+    if number == 2 {
+        return refused(m, Refusal::BadJournal);
+    }
+    refused(m, Refusal::BadState)
 }

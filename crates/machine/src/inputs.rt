@@ -3,6 +3,7 @@ use crate::checks;
 use crate::record;
 use crate::state::Answer;
 use crate::state::Machine;
+use crate::state::Refusal;
 use crate::state::Reply;
 use cpu::state::Cpu;
 use cpu::state::Devices;
@@ -86,7 +87,7 @@ pub fn tick(m: Machine, ram: &mut [u8], journal: &mut [u16]) -> Reply
 {
     let n = checks::check_of(m, ram.len(), journal.len());
     if n != 0 {
-        return checks::refused(m, n);
+        return checks::failed(m, n);
     }
     accept(m, ticked(m.cpu), journal)
 }
@@ -105,10 +106,10 @@ pub fn receive(m: Machine, ram: &mut [u8], journal: &mut [u16], b: u8) -> Reply
 {
     let n = checks::check_of(m, ram.len(), journal.len());
     if n != 0 {
-        return checks::refused(m, n);
+        return checks::failed(m, n);
     }
     if m.cpu.devices.r {
-        return checks::refused(m, 5);
+        return checks::refused(m, Refusal::NotReady);
     }
     accept(m, received(m.cpu, b), journal)
 }
@@ -126,10 +127,10 @@ pub fn sent(m: Machine, ram: &mut [u8], journal: &mut [u16]) -> Reply
 {
     let n = checks::check_of(m, ram.len(), journal.len());
     if n != 0 {
-        return checks::refused(m, n);
+        return checks::failed(m, n);
     }
     if m.cpu.devices.t {
-        return checks::refused(m, 5);
+        return checks::refused(m, Refusal::NotReady);
     }
     accept(m, sent_off(m.cpu), journal)
 }
@@ -163,12 +164,12 @@ pub fn set_register(
 {
     let n = checks::check_of(m, ram.len(), journal.len());
     if n != 0 {
-        return checks::refused(m, n);
+        return checks::failed(m, n);
     }
     if number < 16 {
         return accept(m, register_set(m.cpu, number as usize, content), journal);
     }
-    checks::refused(m, 6)
+    checks::refused(m, Refusal::NoRegister)
 }
 
 pub fn poke(m: Machine, ram: &mut [u8], journal: &mut [u16], at: u16, b: u8) -> Reply
@@ -176,11 +177,11 @@ pub fn poke(m: Machine, ram: &mut [u8], journal: &mut [u16], at: u16, b: u8) -> 
 {
     let n = checks::check_of(m, ram.len(), journal.len());
     if n != 0 {
-        return checks::refused(m, n);
+        return checks::failed(m, n);
     }
     let a = at as usize;
     if ram.len() <= a {
-        return checks::refused(m, 7);
+        return checks::refused(m, Refusal::NotRam);
     }
     let old = halves::join(ram[a], 0);
     let p = keep(m, journal, 1, at, old);
@@ -201,7 +202,7 @@ pub fn reset(m: Machine, ram: &mut [u8], journal: &mut [u16]) -> Reply
 {
     let n = checks::check_of(m, ram.len(), journal.len());
     if n != 0 {
-        return checks::refused(m, n);
+        return checks::failed(m, n);
     }
     accept(m, cpu::state::reset(), journal)
 }

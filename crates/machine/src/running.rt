@@ -3,6 +3,7 @@ use crate::checks;
 use crate::record;
 use crate::state::Answer;
 use crate::state::Machine;
+use crate::state::Refusal;
 use crate::state::Reply;
 use crate::state::Run;
 use crate::state::Stop;
@@ -76,7 +77,7 @@ pub fn run(m: Machine, ram: &mut [u8], journal: &mut [u16], budget: u16) -> Repl
 {
     let n = checks::check_of(m, ram.len(), journal.len());
     if n != 0 {
-        return checks::refused(m, n);
+        return checks::failed(m, n);
     }
     let e = advance(m, ram, journal, budget);
     let after = e.machine;
@@ -92,10 +93,10 @@ pub fn step(m: Machine, ram: &mut [u8], journal: &mut [u16]) -> Reply
 {
     let n = checks::check_of(m, ram.len(), journal.len());
     if n != 0 {
-        return checks::refused(m, n);
+        return checks::failed(m, n);
     }
     if m.cpu.halted {
-        return checks::refused(m, 4);
+        return checks::refused(m, Refusal::Halted);
     }
     let e = advance(m, ram, journal, 1);
     let after = e.machine;

@@ -1,5 +1,7 @@
 // The machine by value, and what a call answers.
 use cpu::state::Cpu;
+ghost use mathlib.Core.Path.{_≡_};
+ghost use Rattle.machine.specs.Calls.{numberOf};
 
 pub struct Machine {
     pub cpu: Cpu,
@@ -19,15 +21,45 @@ pub struct Run {
     pub stop: Stop,
 }
 
-// A lone step tells its bus bytes, a refusal its number.
+// The refusals 1 to 9, in the order of their numbers.
+pub enum Refusal {
+    RamTooLong,
+    BadJournal,
+    BadState,
+    Halted,
+    NotReady,
+    NoRegister,
+    NotRam,
+    NoRecord,
+    BadRecord,
+}
+
+// A lone step tells its bus bytes.
 pub enum Answer {
     Accepted,
     Stepped(u32),
     Ran(Run),
-    Refused(u8),
+    Refused(Refusal),
 }
 
 pub struct Reply {
     pub answer: Answer,
     pub machine: Machine,
+}
+
+// The number that the rules give a refusal.
+pub fn number(why: Refusal) -> u8
+    ensures { λ r. ⌜ r ≡ numberOf why ⌝ }
+{
+    match why {
+        Refusal::RamTooLong => 1,
+        Refusal::BadJournal => 2,
+        Refusal::BadState => 3,
+        Refusal::Halted => 4,
+        Refusal::NotReady => 5,
+        Refusal::NoRegister => 6,
+        Refusal::NotRam => 7,
+        Refusal::NoRecord => 8,
+        Refusal::BadRecord => 9,
+    }
 }

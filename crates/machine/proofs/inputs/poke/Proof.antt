@@ -1,3 +1,4 @@
+use Rattle.machine.specs.declared.state.Refusal.the-variants as Refusal
 use Rattle.machine.proofs.Answering.{fails, denied, taken, poked}
 use denote.Ref.{now}
 use Rattle.machine.specs.Inputs.{box, poke}
@@ -10,17 +11,17 @@ use Rattle.machine.proofs.inputs.poke.Tie as tie
 check-of-requires : tie.Need-check-of-requires
 check-of-requires c κs = search needs
 
+failed-requires : tie.Need-failed-requires
+failed-requires c κs = search needs
+
+returns : tie.Need-returns
+returns c = fails (c .before .before .before .before .before .args .m) (now (c .before .before .before .before .before .args .ram)) (now (c .before .before .before .before .before .args .journal)) _ (c .before .before .check-of .ensures) (give (poke (c .before .before .before .before .before .args .at) (c .before .before .before .before .before .args .b))) _ (c .before .if1 .taken) (c .failed .ensures)
+
 refused-requires : tie.Need-refused-requires
 refused-requires c κs = search needs
 
-returns : tie.Need-returns
-returns c = fails (c .before .before .before .before .before .args .m) (now (c .before .before .before .before .before .args .ram)) (now (c .before .before .before .before .before .args .journal)) _ (c .before .before .check-of .ensures) (give (poke (c .before .before .before .before .before .args .at) (c .before .before .before .before .before .args .b))) _ (c .before .if1 .taken) (c .refused .ensures)
-
-refused-requires-2 : tie.Need-refused-requires-2
-refused-requires-2 c κs = search needs
-
 returns-2 : tie.Need-returns-2
-returns-2 c = denied (c .before .before .before .before .before .before .args .m) (now (c .before .before .before .before .before .before .args .ram)) (now (c .before .before .before .before .before .before .args .journal)) _ (c .before .before .before .check-of .ensures) (c .before .before .if1 .left) (poke (c .before .before .before .before .before .before .args .at) (c .before .before .before .before .before .before .args .b)) 7 _ (pokes-not (box (c .before .before .before .before .before .before .args .m .cpu) (now (c .before .before .before .before .before .before .args .ram))) (c .before .before .before .before .before .before .args .at) (c .before .before .before .before .before .before .args .b) (c .before .if2 .taken)) (c .refused2 .ensures)
+returns-2 c = denied (c .before .before .before .before .before .before .args .m) (now (c .before .before .before .before .before .before .args .ram)) (now (c .before .before .before .before .before .before .args .journal)) _ (c .before .before .before .check-of .ensures) (c .before .before .if1 .left) (poke (c .before .before .before .before .before .before .args .at) (c .before .before .before .before .before .before .args .b)) Refusal.NotRam _ (pokes-not (box (c .before .before .before .before .before .before .args .m .cpu) (now (c .before .before .before .before .before .before .args .ram))) (c .before .before .before .before .before .before .args .at) (c .before .before .before .before .before .before .args .b) (c .before .if2 .taken)) (c .refused .ensures)
 
 slice-read-join : tie.Need-slice-read-join
 slice-read-join c = search needs
@@ -48,9 +49,9 @@ poke-spec =
     tie.close
     (tie.spec
     check-of-requires
-    refused-requires
+    failed-requires
     returns
-    refused-requires-2
+    refused-requires
     returns-2
     slice-read-join
     join-requires

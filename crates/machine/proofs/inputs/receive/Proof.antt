@@ -1,3 +1,4 @@
+use Rattle.machine.specs.declared.state.Refusal.the-variants as Refusal
 use Rattle.machine.proofs.Answering.{fails, denied, taken}
 use denote.Ref.{now}
 use mathlib.Core.Path.{refl}
@@ -11,17 +12,17 @@ use Rattle.machine.proofs.inputs.receive.Tie as tie
 check-of-requires : tie.Need-check-of-requires
 check-of-requires c κs = search needs
 
+failed-requires : tie.Need-failed-requires
+failed-requires c κs = search needs
+
+returns : tie.Need-returns
+returns c = fails (c .before .before .before .before .before .args .m) (now (c .before .before .before .before .before .args .ram)) (now (c .before .before .before .before .before .args .journal)) _ (c .before .before .check-of .ensures) (give (receive (c .before .before .before .before .before .args .b))) _ (c .before .if1 .taken) (c .failed .ensures)
+
 refused-requires : tie.Need-refused-requires
 refused-requires c κs = search needs
 
-returns : tie.Need-returns
-returns c = fails (c .before .before .before .before .before .args .m) (now (c .before .before .before .before .before .args .ram)) (now (c .before .before .before .before .before .args .journal)) _ (c .before .before .check-of .ensures) (give (receive (c .before .before .before .before .before .args .b))) _ (c .before .if1 .taken) (c .refused .ensures)
-
-refused-requires-2 : tie.Need-refused-requires-2
-refused-requires-2 c κs = search needs
-
 returns-2 : tie.Need-returns-2
-returns-2 c = denied (c .before .before .before .before .before .before .args .m) (now (c .before .before .before .before .before .before .args .ram)) (now (c .before .before .before .before .before .before .args .journal)) _ (c .before .before .before .check-of .ensures) (c .before .before .if1 .left) (receive (c .before .before .before .before .before .before .args .b)) 5 _ (receives-not (box (c .before .before .before .before .before .before .args .m .cpu) (now (c .before .before .before .before .before .before .args .ram))) (c .before .before .before .before .before .before .args .b) (c .before .if2 .taken)) (c .refused2 .ensures)
+returns-2 c = denied (c .before .before .before .before .before .before .args .m) (now (c .before .before .before .before .before .before .args .ram)) (now (c .before .before .before .before .before .before .args .journal)) _ (c .before .before .before .check-of .ensures) (c .before .before .if1 .left) (receive (c .before .before .before .before .before .before .args .b)) Refusal.NotReady _ (receives-not (box (c .before .before .before .before .before .before .args .m .cpu) (now (c .before .before .before .before .before .before .args .ram))) (c .before .before .before .before .before .before .args .b) (c .before .if2 .taken)) (c .refused .ensures)
 
 received-requires : tie.Need-received-requires
 received-requires c κs = search needs
@@ -40,9 +41,9 @@ receive-spec =
     tie.close
     (tie.spec
     check-of-requires
-    refused-requires
+    failed-requires
     returns
-    refused-requires-2
+    refused-requires
     returns-2
     received-requires
     accept-requires

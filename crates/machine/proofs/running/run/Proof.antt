@@ -9,11 +9,11 @@ use Rattle.machine.proofs.running.run.Tie as tie
 check-of-requires : tie.Need-check-of-requires
 check-of-requires c κs = search needs
 
-refused-requires : tie.Need-refused-requires
-refused-requires c κs = search needs
+failed-requires : tie.Need-failed-requires
+failed-requires c κs = search needs
 
 returns : tie.Need-returns
-returns c = fails (c .before .before .before .before .before .args .m) (now (c .before .before .before .before .before .args .ram)) (now (c .before .before .before .before .before .args .journal)) _ (c .before .before .check-of .ensures) (Call.run (c .before .before .before .before .before .args .budget)) _ (c .before .if1 .taken) (c .refused .ensures)
+returns c = fails (c .before .before .before .before .before .args .m) (now (c .before .before .before .before .before .args .ram)) (now (c .before .before .before .before .before .args .journal)) _ (c .before .before .check-of .ensures) (Call.run (c .before .before .before .before .before .args .budget)) _ (c .before .if1 .taken) (c .failed .ensures)
 
 advance-requires : tie.Need-advance-requires
 advance-requires c κs = search needs
@@ -32,7 +32,7 @@ run-spec =
     tie.close
     (tie.spec
     check-of-requires
-    refused-requires
+    failed-requires
     returns
     advance-requires
     same-length

@@ -1,0 +1,85 @@
+// What a call answers and leaves, and the lent bytes and words, absorbed one by one.
+use cpu::state::Devices;
+use machine::state::Answer;
+use machine::state::Machine;
+use machine::state::Refusal;
+use machine::state::Run;
+use machine::state::Stop;
+use word::choice;
+use word::halves;
+
+pub fn bytes(digest: u64, s: &[u8]) -> u64 {
+    let mut h = digest;
+    let mut i = 0;
+    while i < s.len() {
+        h = report::absorb_byte(h, s[i]);
+        i += 1;
+    }
+    h
+}
+
+pub fn words(digest: u64, s: &[u16]) -> u64 {
+    let mut h = digest;
+    let mut i = 0;
+    while i < s.len() {
+        h = report::absorb(h, s[i]);
+        i += 1;
+    }
+    h
+}
+
+fn numbers(h: u64, number: u16, steps: u16, bus: u32, cause: u16) -> u64 {
+    let a = report::absorb(h, number);
+    let b = report::absorb(a, steps);
+    let c = report::absorb(b, (bus % 65536) as u16);
+    let d = report::absorb(c, (bus / 65536) as u16);
+    report::absorb(d, cause)
+}
+
+fn cause(stop: Stop) -> u16 {
+    match stop {
+        Stop::Budget => 1,
+        Stop::Halted => 2,
+    }
+}
+
+fn ran(h: u64, run: Run) -> u64 {
+    let stop = run.stop;
+    numbers(h, 0, run.steps, run.bus, cause(stop))
+}
+
+fn refused(h: u64, why: Refusal) -> u64 {
+    let number = machine::state::number(why);
+    numbers(h, number as u16, 0, 0, 0)
+}
+
+fn answered(h: u64, answer: Answer) -> u64 {
+    match answer {
+        Answer::Accepted => numbers(h, 0, 0, 0, 0),
+        Answer::Stepped(bus) => numbers(h, 0, 1, bus, 0),
+        Answer::Ran(run) => ran(h, run),
+        Answer::Refused(why) => refused(h, why),
+    }
+}
+
+fn marks(v: Devices, halted: bool) -> u16 {
+    choice::weigh(v.r, 1) + choice::weigh(v.t, 2) + choice::weigh(halted, 4)
+}
+
+fn left(h: u64, m: Machine) -> u64 {
+    let c = m.cpu;
+    let regs = c.regs;
+    let csrs = c.csrs;
+    let v = c.devices;
+    let g = words(h, &regs);
+    let k = words(g, &csrs);
+    let clock = report::absorb(k, v.clock);
+    let keyboard = report::absorb(clock, halves::join(v.rxd, v.txd));
+    let bits = report::absorb(keyboard, marks(v, c.halted));
+    let next = report::absorb(bits, (m.next % 65536) as u16);
+    report::absorb(next, (m.held % 65536) as u16)
+}
+
+pub fn called(h: u64, answer: Answer, m: Machine) -> u64 {
+    left(answered(h, answer), m)
+}

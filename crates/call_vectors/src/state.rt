@@ -1,0 +1,40 @@
+// What stays from command to command, beside the buffers.
+use machine::state::Machine;
+ghost use Prim.Native.Nat.{_≤_};
+
+// The lengths are of the parts that are lent, from the beginnings of the buffers.
+pub struct Desk {
+    pub machine: Machine,
+    pub digest: u64,
+    pub ram: u16,
+    pub journal: u16,
+    pub line: u16,
+}
+
+pub fn fresh() -> Machine {
+    let cpu = cpu::state::reset();
+    Machine {
+        cpu,
+        next: 0,
+        held: 0,
+    }
+}
+
+// Before the first command.
+pub fn opened() -> Desk {
+    let machine = fresh();
+    Desk {
+        machine,
+        digest: 1,
+        ram: 0,
+        journal: 0,
+        line: 0,
+    }
+}
+
+pub fn lent(wanted: u16, most: usize) -> usize
+    ensures { λ r. ⌜ r ≤ most ⌝ }
+{
+    let n = wanted as usize;
+    if n < most { n } else { most }
+}

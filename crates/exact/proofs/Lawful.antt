@@ -1,0 +1,156 @@
+-- Every input that fits its types is lawful in a good state: the next state is good again, and memory changes only in the bytes told.
+use Prim.Native.Nat.{ℕ, zero, suc, _+_, _-_, _*_, _/_, _%_, min, _≤_, _<_, _^_}
+use mathlib.Core.Path.{_≡_, refl, _∙_, sym, ap}
+use mathlib.Core.Bool.{Bool, true, false, cond, _||_, _&&_}
+use mathlib.Core.List.{List, [], _∷_}
+use mathlib.Core.Logic.{_⊎_, inl, inr}
+use native.Mathlib.Omega.{arith}
+use native.Mathlib.Decide.{ℕ-discrete}
+use borrow.Author.Tests.{le-leb, lt-ltb, eq-eqb}
+use lib.Dec.{leb, ltb, eqb}
+use lib.ListN.{length, set, length-set, take, length-take}
+use Rattle.word.specs.Word.{joinAt, lowAt}
+use Rattle.word.proofs.Width.{low-below, plus-below}
+use Rattle.word.proofs.Digits.{below}
+use Rattle.cpu.specs.State.{F, word, devices, reset}
+use Rattle.cpu.specs.Step.{stepOf}
+use Rattle.cpu.specs.Good.{Within, GoodRegs, GoodCsrs, GoodDevices, Good, Changed, none, one, two}
+use Rattle.cpu.specs.declared.state.Cpu.{Cpu}
+use Rattle.cpu.specs.declared.state.Devices.{Devices}
+use Rattle.cpu.proofs.Kept.{picked, within-set, reg-set, csr0-set, step-good, reset-good}
+use Rattle.cpu.proofs.Touched.{step-changes, kept-length}
+use Rattle.isa.specs.Opcode.{meaning}
+use Rattle.history.specs.Undo.{Touched}
+use Rattle.history.specs.Trace.{Box, Next, refuses, gives, Undo, undoOf, World, Call}
+use Rattle.history.specs.Ring.{Ring, ring, slots}
+use Rattle.history.proofs.PutBack.{touched-none, touched-one, touched-two}
+use Rattle.history.proofs.Exact.{Lawful, Ruly, Keeping}
+use Rattle.history.proofs.RingLaws.{keeping}
+use Rattle.machine.specs.Record.{recordOf, decoded}
+use Rattle.machine.specs.Inputs.{Input, step, tick, receive, sent, setRegister, poke, resets, signalled, ticked, received, sentOff, registerSet, nextOf, machine}
+use Rattle.machine.specs.Calls.{W, stateFits, checked, checkOf}
+use Rattle.exact.specs.Demand3.{Fits}
+use Rattle.exact.proofs.Records.{FineUndo, wide, reads}
+
+pub record GoodBox (b : Box Cpu) : Type 0 where
+  pub cpu : Good (b .cpu)
+  pub bytes : Within 8 (b .ram)
+  pub size : length (b .ram) ≤ 65504
+
+touches : {m : List ℕ} {a n : ℕ} {m′ : List ℕ} → Changed m a n m′ → Touched n a m m′
+touches {m} none = touched-none 0 m
+touches {m} (one a x) = touched-one a x m
+touches {m} (two a x y) = touched-two a x y m
+
+signalled-good : (bits : ℕ) {v : Devices} {c : Cpu} → GoodDevices v → Good c → Good (signalled bits v c)
+unfolding signalled
+signalled-good bits {v} {c} g r =
+    let l : joinAt 8 (lowAt 8 (word (c .csrs) 0)) 1 ≤ 511 = omega (arith, low-below 8 (word (c .csrs) 0)) in
+    record { regs = reg-set F (r .regs) (below 16 _); csrs = csr0-set (r .csrs) l; devices = g }
+
+set-good : (i x : ℕ) {c : Cpu} → x < 2 ^ 16 → Good c → Good (registerSet i x c)
+unfolding registerSet
+set-good i x h r = record { regs = reg-set i (r .regs) h; csrs = r .csrs; devices = r .devices }
+
+module _ (b : Box Cpu) (g : GoodBox b) where
+  L : Next Cpu → Type 0
+  L = Lawful GoodBox b
+
+  quiet : {c : Cpu} → Good c → Lawful GoodBox b (gives (record { box = record { cpu = c; ram = b .ram }; count = 0; at = 0; bus = 0 }))
+  quiet r = (record { cpu = r; bytes = g .bytes; size = g .size }, touched-none 0 (b .ram))
+
+  steps : Lawful GoodBox b (nextOf step b)
+  unfolding nextOf
+  steps =
+      let s = step-good (g .cpu) (g .bytes) in
+      let t = step-changes (λ o. meaning o .op) (b .cpu) (b .ram) in
+      picked (Lawful GoodBox b) (b .cpu .halted) (omega arith)
+      (record { cpu = s .cpu; bytes = s .ram; size = omega (arith, kept-length t, g .size) }, touches t)
+
+  ticks : Lawful GoodBox b (nextOf tick b)
+  unfolding nextOf
+  ticks =
+      let d = g .cpu .devices in
+      quiet (signalled-good 0x0400 (record { clock = plus-below 16 (b .cpu .devices .clock) 1; rxd = d .rxd; txd = d .txd }) (g .cpu))
+
+  receives : (x : ℕ) → x < 2 ^ 8 → Lawful GoodBox b (nextOf (receive x) b)
+  unfolding nextOf
+  receives x h =
+      let d = g .cpu .devices in
+      picked (Lawful GoodBox b) (b .cpu .devices .r) (omega arith) (quiet (signalled-good 0x0800 (record { clock = d .clock; rxd = h; txd = d .txd }) (g .cpu)))
+
+  sends : Lawful GoodBox b (nextOf sent b)
+  unfolding nextOf
+  sends =
+      let d = g .cpu .devices in
+      picked (Lawful GoodBox b) (b .cpu .devices .t) (omega arith)
+      (quiet (signalled-good 0x0800 (record { clock = d .clock; rxd = d .rxd; txd = d .txd }) (g .cpu)))
+
+  sets : (i x : ℕ) → x < 2 ^ 16 → Lawful GoodBox b (nextOf (setRegister i x) b)
+  unfolding nextOf
+  sets i x h = picked (Lawful GoodBox b) (ltb i 16) (quiet (set-good i x h (g .cpu))) (omega arith)
+
+  pokes : (a x : ℕ) → x < 2 ^ 8 → Lawful GoodBox b (nextOf (poke a x) b)
+  unfolding nextOf
+  pokes a x h =
+      picked (Lawful GoodBox b) (ltb a (length (b .ram)))
+      (record { cpu = g .cpu; bytes = within-set 8 a (g .bytes) h; size = omega (arith, length-set (b .ram) a x, g .size) }, touched-one a x (b .ram))
+      (omega arith)
+
+  starts : Lawful GoodBox b (nextOf resets b)
+  unfolding nextOf
+  starts = quiet reset-good
+
+pub lawful : (i : Input) (b : Box Cpu) → Fits i → GoodBox b → Lawful GoodBox b (nextOf i b)
+lawful step b f g = steps b g
+lawful tick b f g = ticks b g
+lawful (receive x) b f g = receives b g x f
+lawful sent b f g = sends b g
+lawful (setRegister i x) b f g = sets b g i x f
+lawful (poke a x) b f g = pokes b g a x f
+lawful resets b f g = starts b g
+
+pub fines : (b : Box Cpu) (n a : ℕ) → GoodBox b → FineUndo (undoOf b n a)
+fines b zero a g =
+    let c = g .cpu in
+    record { regs16 = c .regs .long; csrs6 = c .csrs .long; csr0 = c .csrs .csr0; rxd = c .devices .rxd; count = omega arith; low = omega arith }
+fines b (suc zero) a g =
+    let c = g .cpu in
+    record { regs16 = c .regs .long; csrs6 = c .csrs .long; csr0 = c .csrs .csr0; rxd = c .devices .rxd; count = omega arith; low = g .bytes .at a }
+fines b (suc (suc n)) a g =
+    let c = g .cpu in
+    record { regs16 = c .regs .long; csrs6 = c .csrs .long; csr0 = c .csrs .csr0; rxd = c .devices .rxd; count = omega arith; low = g .bytes .at a }
+
+abbrev pub ruly : Ruly machine FineUndo
+ruly = record { Good = GoodBox; Fits = Fits; stepping = tt; lawful = lawful; fines = fines }
+
+-- the journal's laws, for n slots
+abbrev pub Slots : ℕ → Keeping (ring recordOf decoded) FineUndo
+Slots n = keeping recordOf decoded FineUndo wide reads n
+
+next-fits : (n next : ℕ) → next ≤ n - 1 → (ltb next n || (eqb n 0 && eqb next 0)) ≡ true
+next-fits zero next h = rw (eq-eqb next 0 (omega arith)) (right-true (ltb next 0))
+  where
+    right-true : (b : Bool) → (b || true) ≡ true
+    right-true true = refl
+    right-true false = refl
+next-fits (suc n) next h = rw (lt-ltb next (suc n) (omega arith))
+
+-- where the state is good and the journal holds records, the first checks pass
+pub passes : (n : ℕ) → n ≤ 1024 → (w : W) (us : List (Undo Cpu)) → GoodBox (w .box) → Slots n .Holds (w .journal) us → checkOf w ≡ 0
+unfolding checked
+passes n top w us g h =
+    let j = w .journal in
+    let e : length (j .words) / 32 ≡ n = omega (arith, h .sized) in
+    rw (
+      le-leb (length (w .box .ram)) 65504 (g .size),
+      eq-eqb (length (j .words) % 32) 0 (omega (arith, h .sized)),
+      le-leb (length (j .words)) 32768 (omega (arith, h .sized)),
+      le-leb (word (w .box .cpu .csrs) 0) 511 (g .cpu .csrs .csr0),
+      e,
+      le-leb (j .held) n (omega (arith, h .count, h .room)),
+      next-fits n (j .next) (h .inside),
+    )
+
+pub grows : (n : ℕ) (u : Undo Cpu) (us : List (Undo Cpu)) → length (take n (u ∷ us)) ≡ min n (length us + 1)
+grows n u us = length-take n (u ∷ us) ∙ ap (min n) (omega arith)

@@ -1,0 +1,85 @@
+-- A record that the calls write has 32 words, and reads back as what was written.
+use Prim.Native.Nat.{ℕ, zero, suc, _+_, _≤_, _<_, _^_}
+use mathlib.Core.Path.{_≡_, refl, _∙_, sym, ap}
+use mathlib.Core.List.{List, [], _∷_, _++_}
+use mathlib.Core.Option.{Option, some, none}
+use mathlib.Core.Bool.{Bool, true, false, cond}
+use native.Mathlib.Omega.{arith}
+use borrow.Author.Tests.{le-leb}
+use lib.Dec.{leb}
+use lib.ListN.{length, take, getD}
+use lib.Seq.{take-all}
+use Rattle.word.specs.Word.{joinAt, lowAt, highAt}
+use Rattle.word.specs.Bits.{bitAt}
+use Rattle.word.proofs.Width.{low-join, high-join}
+use Rattle.cpu.specs.State.{word}
+use Rattle.cpu.specs.declared.state.Cpu.{Cpu}
+use Rattle.history.specs.Trace.{Undo}
+use Rattle.machine.specs.Record.{part, marks, recordWith, recordOf, undoFrom, sound, decoded}
+
+pub record FineUndo (u : Undo Cpu) : Type 0 where
+  pub regs16 : length (u .cpu .regs) ≡ 16
+  pub csrs6 : length (u .cpu .csrs) ≡ 6
+  pub csr0 : word (u .cpu .csrs) 0 ≤ 511
+  pub rxd : u .cpu .devices .rxd < 2 ^ 8
+  pub count : u .count ≤ 2
+  pub low : u .low < 2 ^ 8
+
+part-take : (n : ℕ) (l : List ℕ) → n ≤ length l → part n l 0 ≡ take n l
+part-take zero l h = refl
+part-take (suc n) [] h = absurd (omega arith)
+part-take (suc n) (x ∷ xs) h = ap (λ (r : List ℕ). x ∷ r) (shift n 0 ∙ part-take n xs (omega arith))
+  where
+    shift : (m i : ℕ) → part m (x ∷ xs) (suc i) ≡ part m xs i
+    shift zero i = refl
+    shift (suc m) i = ap (λ (r : List ℕ). getD xs i 0 ∷ r) (shift m (suc i))
+
+-- a list of n words is its words
+part-all : (n : ℕ) (l : List ℕ) → length l ≡ n → part n l 0 ≡ l
+part-all n l h = part-take n l (omega arith) ∙ take-all n l (omega arith)
+
+record Marks (r t h : Bool) (n : ℕ) : Type 0 where
+  r-is : bitAt n 0 ≡ r
+  t-is : bitAt n 1 ≡ t
+  h-is : bitAt n 2 ≡ h
+  small : leb n 7 ≡ true
+
+marked : (r t h : Bool) → Marks r t h (marks r t h)
+marked true true true = record { r-is = refl; t-is = refl; h-is = refl; small = refl }
+marked true true false = record { r-is = refl; t-is = refl; h-is = refl; small = refl }
+marked true false true = record { r-is = refl; t-is = refl; h-is = refl; small = refl }
+marked true false false = record { r-is = refl; t-is = refl; h-is = refl; small = refl }
+marked false true true = record { r-is = refl; t-is = refl; h-is = refl; small = refl }
+marked false true false = record { r-is = refl; t-is = refl; h-is = refl; small = refl }
+marked false false true = record { r-is = refl; t-is = refl; h-is = refl; small = refl }
+marked false false false = record { r-is = refl; t-is = refl; h-is = refl; small = refl }
+
+module _ (u : Undo Cpu) (f : FineUndo u) where
+  pub wide : length (recordOf u) ≡ 32
+  unfolding recordWith
+  wide = refl
+
+  reads-undo : undoFrom (recordOf u) ≡ u
+  unfolding recordWith undoFrom
+  reads-undo =
+      let c = u .cpu in
+      let k = marked (c .devices .r) (c .devices .t) (c .halted) in
+      rw (
+        part-all 16 (c .regs) (f .regs16),
+        part-all 6 (c .csrs) (f .csrs6),
+        low-join 8 (c .devices .txd) (f .rxd),
+        high-join 8 (c .devices .txd) (f .rxd),
+        low-join 8 (u .high) (f .low),
+        high-join 8 (u .high) (f .low),
+        k .r-is,
+        k .t-is,
+        k .h-is,
+      )
+
+  is-sound : sound (recordOf u) ≡ true
+  unfolding recordWith sound
+  is-sound = rw (le-leb _ _ (f .csr0), marked (u .cpu .devices .r) (u .cpu .devices .t) (u .cpu .halted) .small, le-leb _ _ (f .count))
+
+  pub reads : decoded (recordOf u) ≡ some u
+  unfolding decoded
+  reads = ap (λ (b : Bool). cond b (some (undoFrom (recordOf u))) none) is-sound ∙ ap some reads-undo

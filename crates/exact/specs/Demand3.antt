@@ -1,0 +1,78 @@
+-- Demand 3, in its own words, about the calls' promises. `proofs/Seen.antt` proves it.
+use Prim.Native.Nat.{ℕ, _%_, _≤_, _<_, _^_}
+use mathlib.Core.Path.{_≡_}
+use mathlib.Core.List.{List, [], _∷_}
+use mathlib.Core.Option.{some}
+use lib.ListN.{length}
+use Rattle.cpu.specs.State.{reset}
+use Rattle.cpu.specs.Good.{Within}
+use Rattle.cpu.specs.declared.state.Cpu.{Cpu}
+use Rattle.history.specs.Trace.{Answer, Call, give, run, back, Left, leaves, upTo, ruled, backNumber}
+use Rattle.history.specs.Ring.{Ring, ringOf, slots}
+use Rattle.machine.specs.Inputs.{Input, step, tick, receive, sent, setRegister, poke, resets, box, machine}
+use Rattle.machine.specs.Calls.{W, answerOf, replied}
+use Rattle.machine.specs.declared.state.Reply.{Reply}
+
+-- "Start from reset, with memory and an empty journal"
+abbrev pub start : List ℕ → List ℕ → W
+start m ws = record { box = box reset m; journal = ringOf ws 0 0 }
+
+-- "of any allowed size"; memory is bytes
+pub record Allowed (m ws : List ℕ) : Type 0 where
+  pub ram : length m ≤ 65504
+  pub bytes : Within 8 m
+  pub whole : length ws % 32 ≡ 0
+  pub words : length ws ≤ 32768
+
+-- one of "our calls": what it was, what the code returned, and memory and journal afterwards
+pub record Made : Type 0 where
+  pub call : Call Input
+  pub reply : Reply
+  pub ram : List ℕ
+  pub words : List ℕ
+
+abbrev pub answered : Made → Answer Cpu Ring
+answered x = replied (x .reply) (x .ram) (x .words)
+
+-- its arguments are of their types: a byte, a word
+abbrev pub Fits : Input → Type 0
+Fits step = Unit {0}
+Fits tick = Unit {0}
+Fits (receive x) = x < 2 ^ 8
+Fits sent = Unit {0}
+Fits (setRegister i x) = x < 2 ^ 16
+Fits (poke a x) = x < 2 ^ 8
+Fits resets = Unit {0}
+
+abbrev pub Typed : Call Input → Type 0
+Typed (give i) = Fits i
+Typed (run n) = Unit {0}
+Typed back = Unit {0}
+
+-- "let only our calls touch either, and hand each call the state that the last one returned": each call keeps its promise, from the world w on
+abbrev pub Chain : W → List Made → Type 0
+Chain w [] = Unit {0}
+Chain w (x ∷ xs) = Typed (x .call) × (answerOf (x .call) w ≡ answered x) × Chain (answered x .world) xs
+
+-- what stands after the calls
+abbrev pub last : W → List Made → W
+last w [] = w
+last w (x ∷ xs) = last (answered x .world) xs
+
+-- "the inputs not taken back", newest first, and "the number held": it "starts at 0, grows by one per accepted input up to the journal's slots
+-- (a run counts as its steps), and falls by one per step-back"; by the numbers and steps that the code returned
+abbrev pub leftBy : ℕ → Left Input → List Made → Left Input
+leftBy n l [] = l
+leftBy n l (x ∷ xs) = leftBy n (leaves (upTo n) step (x .call) (answered x .number) (answered x .steps) l) xs
+
+abbrev pub left : List ℕ → List Made → Left Input
+left ws xs = leftBy (slots ws) (record { inputs = []; held = 0 }) xs
+
+-- "After any mix of accepted inputs and step-backs"
+pub record Demand3 (m ws : List ℕ) (xs : List Made) : Type 0 where
+  -- "registers, status registers, halted mark, devices and memory are what demand 2's rules give for the inputs not taken back, run in order
+  -- from the start"
+  pub state : ruled machine (box reset m) (left ws xs .inputs) ≡ some (last (start m ws) xs .box)
+  pub held : last (start m ws) xs .journal .held ≡ left ws xs .held
+  -- "A step-back is refused exactly when no record is held": with 8 then, and else with nothing, so that 1, 2, 3 and 9 never come up
+  pub refused : answerOf back (last (start m ws) xs) .number ≡ backNumber (left ws xs .held)
