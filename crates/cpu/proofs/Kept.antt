@@ -2,7 +2,7 @@
 use mathlib.Core.Path.{_≡_, refl, sym, _∙_, subst}
 use mathlib.Core.Bool.{Bool, true, false, cond}
 use mathlib.Core.List.{List, [], _∷_}
-use Prim.Native.Nat.{ℕ, zero, suc, _+_, _/_, _%_, _^_, _≤_, _<_}
+use Prim.Native.Nat.{ℕ, zero, suc, _+_, _^_, _≤_, _<_}
 use native.Mathlib.Omega.{arith}
 use lib.Dec.{ltb, eqb}
 use lib.ListN.{length, set, length-set, replicate}
@@ -23,10 +23,10 @@ use Rattle.isa.specs.declared.opcode.Op.{Op}
 use Rattle.isa.specs.declared.opcode.Op.the-variants.{Illegal, Alu, Compare, Move, Load, Store}
 use Rattle.isa.proofs.Tables.{reason-small}
 use Rattle.cpu.specs.State.{F, IA, PC, word, cpu, reset}
-use Rattle.cpu.specs.Addresses.{after, deviceByte, byteAt, wordAt, sending, acknowledged, deviceAfter, Bus, bus, putByte, putWord}
-use Rattle.cpu.specs.Instructions.{flagged, computed, compared, csrRead, csrWritten, Moved, both, moved, Loaded, loads, loaded, loadedWord, plus2, minus2, Stored, stores, stored}
+use Rattle.cpu.specs.Addresses.{after, deviceByte, byteAt, wordAt, deviceAfter, Bus, bus, putByte, putWord}
+use Rattle.cpu.specs.Instructions.{flagged, computed, compared, csrRead, csrWritten, Moved, moved, Loaded, loaded, plus2, minus2, Stored, stored}
 use Rattle.cpu.specs.Exceptions.{pending, due, entered, illegal, turnedOn, settle, settledCsrs}
-use Rattle.cpu.specs.Step.{Step, quiet, executed, past, runs, fetched, interrupted, stepBy, stepOf}
+use Rattle.cpu.specs.Step.{Step, executed, past, runs, stepBy, stepOf}
 use Rattle.cpu.specs.Good.{Within, GoodRegs, GoodCsrs, GoodDevices, Good}
 use Rattle.cpu.specs.declared.state.Cpu.{Cpu}
 use Rattle.cpu.specs.declared.state.Devices.{Devices}

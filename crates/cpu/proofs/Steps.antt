@@ -2,7 +2,7 @@
 use mathlib.Core.Path.{_≡_, refl, sym, _∙_, ap}
 use mathlib.Core.Bool.{Bool, true, false}
 use mathlib.Core.List.{List}
-use Prim.Native.Nat.{ℕ, _+_, _/_, _%_, _<_}
+use Prim.Native.Nat.{ℕ, _+_, _<_}
 use lib.ListN.{getD, set}
 use Rattle.word.specs.Word.{plusAt, lowAt, highAt}
 use Rattle.alu.specs.declared.AluOp.{AluOp}
@@ -16,9 +16,9 @@ use Rattle.isa.specs.declared.opcode.Op.{Op}
 use Rattle.isa.specs.declared.opcode.Op.the-variants.{Illegal, Alu, Compare, Move, Load, Store}
 use Rattle.cpu.specs.State.{F, PC, word, cpu}
 use Rattle.cpu.specs.Addresses.{after, byteAt}
-use Rattle.cpu.specs.Instructions.{computed, compared, Moved, both, moved, Loaded, loads, loaded, Stored, stored}
+use Rattle.cpu.specs.Instructions.{computed, compared, Moved, both, moved, Loaded, loads, loaded, stored}
 use Rattle.cpu.specs.Exceptions.{due, entered, illegal, settle, settledCsrs, settledHalt}
-use Rattle.cpu.specs.Step.{Step, tells, quiet, onRegs, onMoved, onLoaded, onStored, executed, past, runs, stepBy, stepOf, listed, oldBytes, Told, toldOf, toldAs}
+use Rattle.cpu.specs.Step.{Step, tells, quiet, onMoved, onLoaded, onStored, executed, runs, stepBy, stepOf, listed, oldBytes, Told, toldOf, toldAs}
 use Rattle.cpu.specs.Lent.{Over, overOf, overAs, quietly}
 use Rattle.cpu.specs.declared.state.Cpu.{Cpu}
 use Rattle.cpu.specs.declared.state.Devices.{Devices}

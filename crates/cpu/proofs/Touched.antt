@@ -12,9 +12,9 @@ use Rattle.isa.specs.declared.opcode.Op.{Op}
 use Rattle.isa.specs.declared.opcode.Op.the-variants.{Illegal, Alu, Compare, Move, Load, Store}
 use Rattle.isa.specs.declared.opcode.StoreOp.{StoreOp}
 use Rattle.isa.specs.declared.opcode.StoreOp.the-variants.{Sto, Stob, Ddsto}
-use Rattle.cpu.specs.State.{F, PC, word, cpu}
+use Rattle.cpu.specs.State.{F, PC, word}
 use Rattle.cpu.specs.Addresses.{after, byteAt, Bus, bus, putByte, putWord}
-use Rattle.cpu.specs.Instructions.{minus2, Stored, stored}
+use Rattle.cpu.specs.Instructions.{minus2, stored}
 use Rattle.cpu.specs.Exceptions.{due}
 use Rattle.cpu.specs.Step.{Step, executed, past, runs, stepBy}
 use Rattle.cpu.specs.Good.{Changed, none, one, two}

@@ -1,6 +1,6 @@
 -- What each legal instruction does, by groups. Below, g are the registers, k the CSRs, v the devices, m the RAM; the instruction's opcode is o,
 -- its destination d, its source s. A result is told from what stood before it: "Operands are read before results are stored".
-use mathlib.Core.Bool.{Bool, cond}
+use mathlib.Core.Bool.{cond}
 use mathlib.Core.List.{List}
 use Prim.Native.Nat.{ℕ}
 use lib.Dec.{ltb, eqb}
@@ -67,7 +67,7 @@ moved Mv g k o d s = both (set g d (word g s)) k
 moved MvIf g k o d s = both (cond (conditionHolds o (word g F)) (set g d (word g s)) g) k
 moved Reti g k o d s = both (returned g (word k 1)) k
 
--- registers, and the bytes that were loaded
+-- registers, and how many bytes were loaded
 pub record Loaded : Type 0 where
   pub regs : List ℕ
   pub bytes : ℕ
@@ -94,7 +94,7 @@ loaded LdIf g v m o d s = cond (conditionHolds o (word g F)) (loadedWord g v m d
 -- "test true loads and doesn't increment; test false adds 2 to the source"
 loaded LdisIf g v m o d s = cond (conditionHolds o (word g F)) (loadedWord g v m d s) (loads (plus2 g s) 0)
 
--- registers, devices and RAM, the bytes that were written through memory, "ignored writes counted too", and the first of their addresses
+-- registers, devices and RAM, how many bytes were written through memory, "ignored writes counted too", and the first of their addresses
 pub record Stored : Type 0 where
   pub regs : List ℕ
   pub bus : Bus

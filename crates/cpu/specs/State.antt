@@ -2,7 +2,7 @@
 use mathlib.Core.Bool.{Bool, true, false}
 use mathlib.Core.List.{List}
 use Prim.Native.Nat.{ℕ}
-use lib.ListN.{getD, set, replicate}
+use lib.ListN.{getD, replicate}
 use Rattle.cpu.specs.declared.state.Cpu.{Cpu}
 use Rattle.cpu.specs.declared.state.Devices.{Devices}
 
@@ -16,7 +16,7 @@ F = 14
 abbrev pub PC : ℕ
 PC = 15
 
--- a register's word, a CSR's
+-- what stands in a list at a place, 0 past its end: a register's word, a CSR's, a byte of RAM
 abbrev pub word : List ℕ → ℕ → ℕ
 word g i = getD g i 0
 

@@ -1,5 +1,5 @@
--- "One step", and what it tells: the next state, the memory, the bytes written through memory, their first address, the bus bytes.
-use mathlib.Core.Bool.{Bool, cond}
+-- "One step", and what it tells: the next state, the memory, how many bytes it wrote through memory, their first address, how many bus bytes.
+use mathlib.Core.Bool.{cond}
 use mathlib.Core.List.{List}
 use Prim.Native.Nat.{ℕ, _+_}
 use lib.Dec.{eqb}
@@ -31,19 +31,22 @@ tells c m n a b = record { cpu = c; ram = m; count = n; first = a; bus = b }
 abbrev pub quiet : Cpu → List ℕ → ℕ → Step
 quiet c m b = tells c m 0 0 b
 
--- a legal instruction from its group's answer: "Bus bytes are 2 plus the bytes loaded or stored"; then H and the halted mark by f before it
+-- the end of a legal instruction: H and the halted mark by f before it
+abbrev pub legal : Cpu → List ℕ → List ℕ → Devices → Cpu
+legal c g k v = settle (word (c .regs) F) (cpu g k v (c .halted))
+
+-- a legal instruction from its group's answer: "Bus bytes are 2 plus the bytes loaded or stored"
 abbrev pub onRegs : Cpu → List ℕ → List ℕ → Step
-onRegs c m g = quiet (settle (word (c .regs) F) (cpu g (c .csrs) (c .devices) (c .halted))) m 2
+onRegs c m g = quiet (legal c g (c .csrs) (c .devices)) m 2
 
 abbrev pub onMoved : Cpu → List ℕ → Moved → Step
-onMoved c m x = quiet (settle (word (c .regs) F) (cpu (x .regs) (x .csrs) (c .devices) (c .halted))) m 2
+onMoved c m x = quiet (legal c (x .regs) (x .csrs) (c .devices)) m 2
 
 abbrev pub onLoaded : Cpu → List ℕ → Loaded → Step
-onLoaded c m x = quiet (settle (word (c .regs) F) (cpu (x .regs) (c .csrs) (c .devices) (c .halted))) m (2 + x .bytes)
+onLoaded c m x = quiet (legal c (x .regs) (c .csrs) (c .devices)) m (2 + x .bytes)
 
 abbrev pub onStored : Cpu → Stored → Step
-onStored c x =
-    tells (settle (word (c .regs) F) (cpu (x .regs) (c .csrs) (x .bus .devices) (c .halted))) (x .bus .ram) (x .count) (x .first) (2 + x .count)
+onStored c x = tells (legal c (x .regs) (c .csrs) (x .bus .devices)) (x .bus .ram) (x .count) (x .first) (2 + x .count)
 
 -- the instruction, by what its opcode o is; d is the destination, s the source
 unfoldable pub executed : Op → Cpu → List ℕ → ℕ → ℕ → ℕ → Step
@@ -54,10 +57,11 @@ executed (Move op) c m o d s = onMoved c m (moved op (c .regs) (c .csrs) o d s)
 executed (Load op) c m o d s = onLoaded c m (loaded op (c .regs) (c .devices) m o d s)
 executed (Store op) c m o d s = onStored c (stored op (c .regs) (c .devices) m d s)
 
--- "pc gains 2, and the instruction runs. First byte is the opcode; the second has the destination in its upper and the source in its lower four bits."
+-- "pc gains 2, and the instruction runs"
 abbrev pub past : Cpu → Cpu
 past c = cpu (set (c .regs) PC (plusAt 16 (word (c .regs) PC) 2)) (c .csrs) (c .devices) (c .halted)
 
+-- "First byte is the opcode; the second has the destination in its upper and the source in its lower four bits."
 unfoldable pub runs : (ℕ → Op) → Cpu → List ℕ → ℕ → ℕ → Step
 runs what c m o b = executed (what o) (past c) m o (highAt 4 b) (lowAt 4 b)
 

@@ -63,8 +63,8 @@ fn write_csr(csrs: &mut [u16; 6], i: usize, w: u16)
     ensures { λ _. ⌜ now (csrs .exit) ≡ csrWritten (now (csrs .entry)) i w ⌝ }
 {
     if i == 0 {
-        let reason = csrs[0];
-        csrs[0] = halves::join(halves::low(w), halves::high(reason));
+        let csr0 = csrs[0];
+        csrs[0] = halves::join(halves::low(w), halves::high(csr0));
         return;
     }
     if i < 6 {

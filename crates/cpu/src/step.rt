@@ -18,8 +18,8 @@ const F: usize = Reg::F.number as usize;
 
 const PC: usize = Reg::PC.number as usize;
 
-// What a step leaves, beside the lent registers, CSRs and bytes: the device registers, the halted mark, the bytes written through memory, their
-// first address, the bytes that they wrote over, the bus bytes.
+// What a step leaves, beside the lent registers, CSRs and bytes: the device registers, the halted mark, how many bytes it wrote through memory,
+// their first address, what they wrote over, how many bus bytes.
 pub struct Done {
     pub devices: Devices,
     pub halted: bool,

@@ -1,34 +1,31 @@
 -- Every input that fits its types is lawful in a good state: the next state is good again, and memory changes only in the bytes told.
-use Prim.Native.Nat.{ℕ, zero, suc, _+_, _-_, _*_, _/_, _%_, min, _≤_, _<_, _^_}
-use mathlib.Core.Path.{_≡_, refl, _∙_, sym, ap}
-use mathlib.Core.Bool.{Bool, true, false, cond, _||_, _&&_}
-use mathlib.Core.List.{List, [], _∷_}
-use mathlib.Core.Logic.{_⊎_, inl, inr}
+use Prim.Native.Nat.{ℕ, zero, suc, _+_, _-_, _/_, _%_, min, _≤_, _<_, _^_}
+use mathlib.Core.Path.{_≡_, refl, _∙_, ap}
+use mathlib.Core.Bool.{Bool, true, false, _||_, _&&_}
+use mathlib.Core.List.{List, _∷_}
 use native.Mathlib.Omega.{arith}
-use native.Mathlib.Decide.{ℕ-discrete}
 use borrow.Author.Tests.{le-leb, lt-ltb, eq-eqb}
-use lib.Dec.{leb, ltb, eqb}
-use lib.ListN.{length, set, length-set, take, length-take}
+use lib.Dec.{ltb, eqb}
+use lib.ListN.{length, length-set, take, length-take}
 use Rattle.word.specs.Word.{joinAt, lowAt}
 use Rattle.word.proofs.Width.{low-below, plus-below}
 use Rattle.word.proofs.Digits.{below}
-use Rattle.cpu.specs.State.{F, word, devices, reset}
-use Rattle.cpu.specs.Step.{stepOf}
-use Rattle.cpu.specs.Good.{Within, GoodRegs, GoodCsrs, GoodDevices, Good, Changed, none, one, two}
+use Rattle.cpu.specs.State.{F, word, devices}
+use Rattle.cpu.specs.Good.{Within, GoodDevices, Good, Changed, none, one, two}
 use Rattle.cpu.specs.declared.state.Cpu.{Cpu}
 use Rattle.cpu.specs.declared.state.Devices.{Devices}
 use Rattle.cpu.proofs.Kept.{picked, within-set, reg-set, csr0-set, step-good, reset-good}
 use Rattle.cpu.proofs.Touched.{step-changes, kept-length}
 use Rattle.isa.specs.Opcode.{meaning}
 use Rattle.history.specs.Undo.{Touched}
-use Rattle.history.specs.Trace.{Box, Next, refuses, gives, Undo, undoOf, World, Call}
-use Rattle.history.specs.Ring.{Ring, ring, slots}
+use Rattle.history.specs.Trace.{Box, Next, gives, Undo, undoOf}
+use Rattle.history.specs.Ring.{ring}
 use Rattle.history.proofs.PutBack.{touched-none, touched-one, touched-two}
 use Rattle.history.proofs.Exact.{Lawful, Ruly, Keeping}
 use Rattle.history.proofs.RingLaws.{keeping}
 use Rattle.machine.specs.Record.{recordOf, decoded}
-use Rattle.machine.specs.Inputs.{Input, step, tick, receive, sent, setRegister, poke, resets, signalled, ticked, received, sentOff, registerSet, nextOf, machine}
-use Rattle.machine.specs.Calls.{W, stateFits, checked, checkOf}
+use Rattle.machine.specs.Inputs.{Input, step, tick, receive, sent, setRegister, poke, resets, signalled, registerSet, nextOf, machine}
+use Rattle.machine.specs.Calls.{W, checked, checkOf}
 use Rattle.exact.specs.Demand3.{Fits}
 use Rattle.exact.proofs.Records.{FineUndo, wide, reads}
 

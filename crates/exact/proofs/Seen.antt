@@ -1,25 +1,18 @@
 -- Demand 3 over what was seen: a list of calls with the answers that came, each as its contract says, each made on what the one before it left.
 -- And a contract has one result.
-use Prim.Native.Nat.{ℕ, _%_, _/_, _≤_}
-use mathlib.Core.Path.{_≡_, refl, _∙_, sym, ap}
+use Prim.Native.Nat.{ℕ}
+use mathlib.Core.Path.{_≡_, refl, _∙_, ap}
 use mathlib.Core.List.{List, [], _∷_, map}
 use native.Mathlib.Omega.{arith}
-use lib.ListN.{length}
 use Rattle.cpu.specs.State.{reset}
 use Rattle.cpu.specs.declared.state.Cpu.{Cpu}
 use Rattle.cpu.proofs.Kept.{reset-good}
-use Rattle.history.specs.Trace.{World, Answer as AnswerOf, Cause, no-run, budget, stopped, Call, give, run, back, Left, leaves, upTo, Played, one, play, fresh, Exactly}
+use Rattle.history.specs.Trace.{Answer as AnswerOf, Call, give, run, back, Left, leaves, upTo, Played, play}
 use Rattle.history.specs.Ring.{Ring, ringOf, ring, slots}
 use Rattle.history.proofs.Exact.{AllApt, exact}
 use Rattle.machine.specs.Record.{recordOf, decoded}
 use Rattle.machine.specs.Inputs.{Input, step, box, machine}
-use Rattle.machine.specs.Calls.{W, checkOf, answerOf, worldOf, replied}
-use Rattle.machine.specs.declared.state.Machine.{Machine as MachineT}
-use Rattle.machine.specs.declared.state.Stop.{Stop}
-use Rattle.machine.specs.declared.state.Stop.the-variants.{Halted, Budget}
-use Rattle.machine.specs.declared.state.Answer.{Answer}
-use Rattle.machine.specs.declared.state.Answer.the-variants.{Accepted, Stepped, Ran, Refused}
-use Rattle.machine.specs.declared.state.Reply.{Reply}
+use Rattle.machine.specs.Calls.{W, checkOf}
 use Rattle.exact.specs.Demand3.{start, Allowed, Made, answered, Typed, Chain, last, leftBy, left, Demand3}
 use Rattle.exact.proofs.Records.{FineUndo}
 use Rattle.exact.proofs.Lawful.{ruly, Slots, passes, grows}

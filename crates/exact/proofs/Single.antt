@@ -4,7 +4,6 @@ use mathlib.Core.Path.{_≡_, refl, _∙_, sym, ap}
 use mathlib.Core.Bool.{cond}
 use mathlib.Core.List.{List}
 use lib.Dec.{eqb}
-use lib.ListN.{getD}
 use Rattle.cpu.specs.Addresses.{Bus, bus}
 use Rattle.cpu.specs.Step.{Told, toldAs}
 use Rattle.cpu.specs.declared.state.Cpu.{Cpu}
@@ -13,7 +12,7 @@ use Rattle.cpu.specs.declared.step.Done.{Done}
 use Rattle.history.specs.Trace.{Answer as AnswerOf, Cause, no-run, budget, stopped, Call}
 use Rattle.history.specs.Ring.{Ring}
 use Rattle.machine.specs.Inputs.{Input}
-use Rattle.machine.specs.Calls.{W, answerOf, worldOf, saidBy, replied}
+use Rattle.machine.specs.Calls.{W, answerOf, worldOf, saidBy}
 use Rattle.machine.specs.declared.state.Machine.{Machine as MachineT}
 use Rattle.machine.specs.declared.state.Stop.{Stop}
 use Rattle.machine.specs.declared.state.Stop.the-variants.{Halted, Budget}

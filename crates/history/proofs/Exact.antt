@@ -1,15 +1,15 @@
 -- Demand 3 for any machine that touches at most the bytes it says, and any journal that hands back its newest record.
-use Prim.Native.Nat.{ℕ, zero, suc, _+_, _-_, _≤_, _<_}
+use Prim.Native.Nat.{ℕ, zero, suc, _-_, _<_}
 use mathlib.Core.Path.{_≡_, refl, _∙_, ap}
 use mathlib.Core.List.{List, [], _∷_}
-use mathlib.Core.Option.{Option, some, none}
+use mathlib.Core.Option.{some}
 use native.Mathlib.Omega.{arith}
 use lib.ListN.{length, take}
-use Rattle.history.specs.Undo.{above, restored, Touched}
+use Rattle.history.specs.Undo.{Touched}
 use Rattle.history.proofs.PutBack.{undone-none, undone-one, undone-two}
-use Rattle.history.specs.Trace.{Box, Effect, Next, refuses, gives, Machine, Undo, undoOf, undo, Popped, denies, hands, Store}
-use Rattle.history.specs.Trace.{Call, give, run, back, World, Answer, refusal, Left, took, tookTimes, rest, leaves, boxOf, onward, ruled, trail}
-use Rattle.history.specs.Trace.{backNumber, guarded, W, A, after, gave, backed, stepped, ran, plain, answer, Played, one, play, fresh, Exactly}
+use Rattle.history.specs.Trace.{Box, Effect, Next, refuses, gives, Machine, Undo, undoOf, undo, denies, hands, Store}
+use Rattle.history.specs.Trace.{Call, give, run, back, World, Left, took, tookTimes, rest, leaves, ruled, trail}
+use Rattle.history.specs.Trace.{backNumber, W, after, gave, stepped, ran, plain, Played, one, play, fresh, Exactly}
 
 -- what demand 3 needs of the rules' answer in a good state: a refusal has a number; an effect is good again, and touches the bytes it says
 abbrev pub Lawful : {C : Type 0} → (Box C → Type 0) → Box C → Next C → Type 0

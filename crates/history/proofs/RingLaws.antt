@@ -1,21 +1,19 @@
 -- The ring of 32-word records keeps the laws of a journal of a fixed number of slots.
-use Prim.Native.Nat.{ℕ, zero, suc, _+_, _-_, _*_, _/_, min, _≤_, _<_}
-use mathlib.Core.Path.{_≡_, refl, _∙_, sym, ap}
-use mathlib.Core.List.{List, [], _∷_, _++_, append-assoc}
-use mathlib.Core.Option.{Option, some, none}
-use mathlib.Core.Bool.{Bool, true, false}
+use Prim.Native.Nat.{ℕ, zero, suc, _+_, _-_, _*_, _/_, _≤_, _<_}
+use mathlib.Core.Path.{_≡_, _∙_, sym, ap}
+use mathlib.Core.List.{List, [], _∷_, append-assoc}
+use mathlib.Core.Option.{Option, some}
 use mathlib.Core.Logic.{_⊎_, inl, inr, ⊎-elim}
 use native.Mathlib.Omega.{arith}
 use native.Mathlib.Numerals.{add-one}
-use native.Mathlib.Decide.{decLe, decLt, ℕ-discrete}
+use native.Mathlib.Decide.{decLt, ℕ-discrete}
 use borrow.Author.Tests.{eq-eqb, ne-eqb}
-use lib.Dec.{eqb}
-use lib.ListN.{length, take, drop, getD, length-take, length-drop, length-append, List·getD-append}
-use lib.Seq.{paste, length-paste, length-paste-head, ext-getD, getD-take, getD-drop, getD-append-add, drop-at, take-at, take-all, length-take-le, drop-paste, drop-drop}
-use Rattle.history.specs.Trace.{Popped, denies, hands, Store}
+use lib.ListN.{length, take, drop, getD, length-take, length-drop, List·getD-append}
+use lib.Seq.{paste, length-paste, ext-getD, getD-take, getD-drop, drop-at, take-at, take-all, length-take-le, drop-paste}
+use Rattle.history.specs.Trace.{hands}
 use Rattle.history.proofs.Exact.{Keeping}
 use Rattle.history.proofs.Pushing.{push-in, push-out}
-use Rattle.history.specs.Ring.{Ring, ringOf, slotAfter, slotBefore, slotWords, pushed, popped, poppedAt, ring}
+use Rattle.history.specs.Ring.{Ring, slotAfter, slotBefore, slotWords, pushed, popped, ring}
 
 -- ---- a pasted stretch, read by index
 module _ (d : List ℕ) (at : ℕ) (r : List ℕ) (fits : at + 32 ≤ length d) (size : length r ≡ 32) where

@@ -3,7 +3,7 @@ use Prim.Native.Nat.{ℕ, zero, suc, _+_, _-_, _<_, _≤_}
 use mathlib.Core.Path.{_≡_, refl, sym, _∙_, ap}
 use native.Mathlib.Omega.{arith}
 use native.Mathlib.Nat.{sub-zero, zero-add}
-use Rattle.history.specs.Trace.{Effect, Next, refuses, gives, Machine, Undo, Store, World, Cause, stopped, budget, Answer, answers, give, after, causeOf, stepped, ran, plain}
+use Rattle.history.specs.Trace.{Effect, Next, refuses, gives, Machine, Undo, Store, World, Cause, stopped, budget, Answer, answers, give, after, stepped, ran, plain}
 
 module _ (M : Machine) (K : Store (Undo (M .C))) where
   abbrev W : Type 0

@@ -1,5 +1,5 @@
 -- Any journal with the laws, whatever it keeps: the number held grows by what the journal's own rule keeps of the newest records. (Q-11's journal is to use this.)
-use Prim.Native.Nat.{ℕ, zero, suc, _+_}
+use Prim.Native.Nat.{ℕ, _+_}
 use mathlib.Core.Path.{_≡_, refl, _∙_, ap, sym}
 use mathlib.Core.List.{List, [], _∷_}
 use native.Mathlib.Numerals.{add-one}

@@ -1,6 +1,6 @@
 -- The journal of fixed slots: a ring of 32-word records in lent words, for any record and any layout of 32 words.
 use Prim.Native.Nat.{ℕ, zero, suc, _+_, _-_, _*_, _/_, min}
-use mathlib.Core.List.{List, [], _∷_}
+use mathlib.Core.List.{List}
 use mathlib.Core.Option.{Option, some, none}
 use mathlib.Core.Bool.{cond}
 use lib.Dec.{eqb, ltb}

@@ -1,5 +1,5 @@
 -- From what the parts of a call leave to what the call answers.
-use Prim.Native.Nat.{ℕ, zero, suc, _+_, _-_, _*_, _/_, _%_, _≤_, _<_}
+use Prim.Native.Nat.{ℕ, zero, suc, _-_, _/_, _≤_, _<_}
 use mathlib.Core.Path.{_≡_, refl, sym, _∙_, ap}
 use mathlib.Core.Bool.{Bool, true, false, cond, _&&_, _||_}
 use mathlib.Core.List.{List}
@@ -14,12 +14,12 @@ use Rattle.word.specs.Word.{joinAt}
 use Rattle.cpu.specs.State.{word}
 use Rattle.cpu.specs.declared.state.Cpu.{Cpu}
 use Rattle.history.specs.Undo.{restored}
-use Rattle.history.specs.Trace.{Box, Effect, Next, refuses, gives, Undo, undo, undoOf, Popped, denies, hands, World, no-run, Answer as AnswerOf, answers, refusal, Call, give, back, gave, backed, guarded, plain, ran, after}
+use Rattle.history.specs.Trace.{Box, Effect, Next, refuses, gives, Undo, no-run, Answer as AnswerOf, answers, refusal, Call, give, back, gave, backed, guarded, plain, ran, after}
 use Rattle.history.specs.Ring.{Ring, ringOf, slotBefore, slotWords, pushed, popped, poppedAt, slots, ring, readable}
 use Rattle.history.proofs.Copying.{before-below}
 use Rattle.machine.specs.Record.{recordWith, recordOf, undoFrom, sound, decoded, undoAs}
-use Rattle.machine.specs.Inputs.{Input, step, tick, receive, sent, setRegister, poke, resets, box, quietly, ticked, received, sentOff, registerSet, nextOf, stepsOf, machine}
-use Rattle.machine.specs.Calls.{W, ramFits, journalFits, stateFits, firstOf, checked, checkOf, answerOf, worldOf, numberOf, firstRefusal, replied, refuse, ranAs}
+use Rattle.machine.specs.Inputs.{Input, step, tick, receive, sent, setRegister, poke, box, quietly, ticked, received, sentOff, registerSet, nextOf, stepsOf, machine}
+use Rattle.machine.specs.Calls.{W, ramFits, journalFits, stateFits, firstOf, checked, checkOf, answerOf, worldOf, numberOf, firstRefusal, replied, refuse, standing, ranAs}
 use Rattle.machine.specs.declared.state.Machine.{Machine as MachineT}
 use Rattle.machine.specs.declared.state.Refusal.{Refusal}
 use Rattle.machine.specs.declared.state.Refusal.the-variants as Refusal
@@ -214,7 +214,7 @@ module _ (m : MachineT) (ram ws : List ℕ) where
 -- a lone step, from a run of one
 pub alone : (m : MachineT) (ram ws : List ℕ) (r : Ended) (ram′ ws′ : List ℕ) (x : Effect Cpu) → nextOf step (box (m .cpu) ram) ≡ gives x
     → ran machine (ring recordOf decoded) 1 (worldOf m ram ws) ≡ ranAs r ram′ ws′
-    → plainly (give step) (worldOf m ram ws) ≡ answers 0 1 (r .run .bus) no-run (worldOf (r .machine) ram′ ws′)
+    → plainly (give step) (worldOf m ram ws) ≡ answers 0 1 (r .run .bus) no-run (standing (r .cpu) (r .place) ram′ ws′)
 alone m ram ws r ram′ ws′ x q s =
     let t = rw q at s in
     rw q (ap (λ (b : ℕ). answers 0 1 b no-run (after machine (ring recordOf decoded) (worldOf m ram ws) x)) (sym (add-zero (x .bus))) ∙ ap (λ (a : AnswerOf Cpu Ring). answers 0 1 (a .bus) no-run (a .world)) t)

@@ -4,7 +4,6 @@ use mathlib.Core.Path.{_≡_, refl, sym, _∙_, ap}
 use mathlib.Core.Bool.{Bool, true, false}
 use mathlib.Core.List.{List}
 use native.Mathlib.Omega.{arith}
-use lib.ListN.{length}
 use Rattle.cpu.specs.State.{cpu}
 use Rattle.cpu.specs.Step.{Step, tells, stepOf, oldBytes, Told, toldOf, toldAs}
 use Rattle.cpu.specs.Good.{Changed, none, one, two}
@@ -13,11 +12,11 @@ use Rattle.cpu.specs.declared.state.Devices.{Devices}
 use Rattle.cpu.specs.declared.step.Done.{Done}
 use Rattle.cpu.proofs.Touched.{step-changes}
 use Rattle.isa.specs.Opcode.{meaning}
-use Rattle.history.specs.Trace.{Box, Effect, Next, refuses, gives, undoOf, World, Answer as AnswerOf, answers, stopped, budget as spent, ran, after}
+use Rattle.history.specs.Trace.{Box, refuses, gives, undoOf, Answer as AnswerOf, answers, stopped, budget as spent, ran, after}
 use Rattle.history.specs.Ring.{Ring, ringOf, pushed, slots, ring}
 use Rattle.history.proofs.Runs.{plus, ran-start, ran-more, ran-stopped, ran-done}
 use Rattle.machine.specs.Record.{recordWith, recordOf, decoded}
-use Rattle.machine.specs.Inputs.{step, box, effect, stepped, nextOf, machine}
+use Rattle.machine.specs.Inputs.{step, box, stepped, nextOf, machine}
 use Rattle.machine.specs.Calls.{W}
 use Rattle.machine.proofs.Answering.{at}
 

@@ -1,13 +1,13 @@
 -- "Numbered answers": what each call answers, and how the code's answers stand for it.
-use Prim.Native.Nat.{ℕ, _+_, _*_, _/_, _%_}
-use mathlib.Core.Bool.{Bool, true, false, cond, _&&_, _||_}
+use Prim.Native.Nat.{ℕ, _/_, _%_}
+use mathlib.Core.Bool.{Bool, cond, _&&_, _||_}
 use mathlib.Core.List.{List}
 use lib.Dec.{leb, ltb, eqb}
 use lib.ListN.{length}
 use Rattle.cpu.specs.State.{word}
 use Rattle.cpu.specs.declared.state.Cpu.{Cpu}
-use Rattle.history.specs.Trace.{Box, World, Cause, no-run, budget, stopped, Answer as AnswerOf, answers, Call, answer}
-use Rattle.history.specs.Ring.{Ring, ringOf, ring, slots}
+use Rattle.history.specs.Trace.{World, Cause, no-run, budget, stopped, Answer as AnswerOf, answers, Call, answer}
+use Rattle.history.specs.Ring.{Ring, ringOf, ring}
 use Rattle.machine.specs.Record.{recordOf, decoded}
 use Rattle.machine.specs.Inputs.{Input, box, machine}
 use Rattle.machine.specs.declared.state.Machine.{Machine as MachineT}
@@ -17,7 +17,9 @@ use Rattle.machine.specs.declared.state.Refusal.{Refusal}
 use Rattle.machine.specs.declared.state.Refusal.the-variants as Refusal
 use Rattle.machine.specs.declared.state.Answer.{Answer}
 use Rattle.machine.specs.declared.state.Answer.the-variants.{Accepted, Stepped, Ran, Refused}
+use Rattle.machine.specs.declared.state.Run.{Run}
 use Rattle.machine.specs.declared.state.Reply.{Reply}
+use Rattle.history.specs.declared.Place.{Place}
 use Rattle.machine.specs.declared.running.Ended.{Ended}
 
 abbrev pub W : Type 0
@@ -87,6 +89,19 @@ replied r ram ws = saidBy (r .answer) (worldOf (r .machine) ram ws)
 abbrev pub refuse : MachineT → Refusal → Reply
 refuse m why = record { answer = Refused why; machine = m }
 
+-- state, next slot and records held, RAM and journal words
+abbrev pub standing : Cpu → Place → List ℕ → List ℕ → W
+standing c p ram ws = record { box = box c ram; journal = ringOf ws (p .next) (p .held) }
+
+abbrev pub machineAt : Cpu → Place → MachineT
+machineAt c p = record { cpu = c; next = p .next; held = p .held }
+
+abbrev pub placeIn : MachineT → Place
+placeIn m = record { next = m .next; held = m .held }
+
 -- a run as the code has it
+abbrev pub runTold : ℕ → ℕ → Stop → Run
+runTold s b t = record { steps = s; bus = b; stop = t }
+
 abbrev pub ranAs : Ended → List ℕ → List ℕ → AnswerOf Cpu Ring
-ranAs r ram ws = answers 0 (r .run .steps) (r .run .bus) (causeIs (r .run .stop)) (worldOf (r .machine) ram ws)
+ranAs r ram ws = answers 0 (r .run .steps) (r .run .bus) (causeIs (r .run .stop)) (standing (r .cpu) (r .place) ram ws)

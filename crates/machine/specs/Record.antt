@@ -1,10 +1,9 @@
 -- "Journal record": 32 words that keep the state before an input and the bytes that it wrote over.
-use Prim.Native.Nat.{ℕ, zero, suc, _+_, _/_, _%_, _≤_, _<_, _^_}
+use Prim.Native.Nat.{ℕ, zero, suc, _+_}
 use mathlib.Core.Bool.{Bool, cond, _&&_}
 use mathlib.Core.List.{List, [], _∷_, _++_}
 use mathlib.Core.Option.{Option, some, none}
 use lib.Dec.{leb, eqb}
-use lib.ListN.{getD}
 use Rattle.word.specs.Word.{joinAt, lowAt, highAt}
 use Rattle.word.specs.Bits.{bitAt}
 use Rattle.cpu.specs.State.{word, cpu, devices}

@@ -16,59 +16,78 @@ ghost use Rattle.history.specs.Trace.{Call, give, ran};
 ghost use Rattle.history.specs.Ring.{ring};
 ghost use Rattle.machine.specs.Record.{recordOf, decoded};
 ghost use Rattle.machine.specs.Inputs.{Input, machine};
-ghost use Rattle.machine.specs.Calls.{answerOf, worldOf, replied, ranAs};
+ghost use Rattle.machine.specs.Calls.{answerOf, worldOf, replied, standing, runTold, ranAs, machineAt, placeIn};
 
 // What a run leaves.
 struct Ended {
-    machine: Machine,
+    cpu: Cpu,
+    place: Place,
     run: Run,
 }
 
-// Steps until the machine is halted or the budget used up: the one place that steps.
-fn advance(m: Machine, ram: &mut [u8], journal: &mut [u16], budget: u16) -> Ended
-    ensures { λ r. ⌜ ran machine (ring recordOf decoded) budget (worldOf m (now (ram .entry)) (now (journal .entry))) ≡ ranAs r (now (ram .exit)) (now (journal .exit)) ⌝ }
+fn told(steps: u16, bus: u32, stop: Stop) -> Run
+    ensures { λ r. ⌜ r ≡ runTold steps bus stop ⌝ }
 {
-    let c = m.cpu;
+    Run { steps, bus, stop }
+}
+
+// Steps until the machine is halted or the budget used up: the one place that steps.
+fn advance(c: Cpu, place: Place, ram: &mut [u8], journal: &mut [u16], budget: u16) -> Ended
+    ensures { λ r. ⌜ ran machine (ring recordOf decoded) budget (standing c place (now (ram .entry)) (now (journal .entry))) ≡ ranAs r (now (ram .exit)) (now (journal .exit)) ⌝ }
+{
     let table = opcode::table();
     let mut regs = c.regs;
     let mut csrs = c.csrs;
     let mut v = c.devices;
     let mut halted = c.halted;
-    let mut next = m.next;
-    let mut held = m.held;
+    let mut at = place;
     let mut steps: u16 = 0;
     let mut bus: u32 = 0;
-    let stop = loop {
+    let run = loop {
         if halted {
-            break Stop::Halted;
+            break told(steps, bus, Stop::Halted);
         }
         if steps == budget {
-            break Stop::Budget;
+            break told(steps, bus, Stop::Budget);
         }
         let g = regs;
         let k = csrs;
         let q = step::step(&mut regs, &mut csrs, ram, v, halted, &table);
         let words = record::encode(g, k, v, halted, q.count, q.first, q.old);
-        let p = history::push(journal, Place { next, held }, words);
-        next = p.next;
-        held = p.held;
+        at = history::push(journal, at, words);
         v = q.devices;
         halted = q.halted;
         bus = bus + q.bus as u32;
         steps = steps + 1;
     };
     Ended {
-        machine: Machine {
-            cpu: Cpu {
-                regs,
-                csrs,
-                devices: v,
-                halted,
-            },
-            next,
-            held,
+        cpu: Cpu {
+            regs,
+            csrs,
+            devices: v,
+            halted,
         },
-        run: Run { steps, bus, stop },
+        place: at,
+        run,
+    }
+}
+
+fn machine_of(c: Cpu, p: Place) -> Machine
+    ensures { λ r. ⌜ r ≡ machineAt c p ⌝ }
+{
+    Machine {
+        cpu: c,
+        next: p.next,
+        held: p.held,
+    }
+}
+
+fn place_of(m: Machine) -> Place
+    ensures { λ r. ⌜ r ≡ placeIn m ⌝ }
+{
+    Place {
+        next: m.next,
+        held: m.held,
     }
 }
 
@@ -79,12 +98,14 @@ pub fn run(m: Machine, ram: &mut [u8], journal: &mut [u16], budget: u16) -> Repl
     if n != 0 {
         return checks::failed(m, n);
     }
-    let e = advance(m, ram, journal, budget);
-    let after = e.machine;
-    let told = e.run;
+    let before = m.cpu;
+    let e = advance(before, place_of(m), ram, journal, budget);
+    let c = e.cpu;
+    let p = e.place;
+    let r = e.run;
     Reply {
-        answer: Answer::Ran(told),
-        machine: after,
+        answer: Answer::Ran(r),
+        machine: machine_of(c, p),
     }
 }
 
@@ -98,10 +119,12 @@ pub fn step(m: Machine, ram: &mut [u8], journal: &mut [u16]) -> Reply
     if m.cpu.halted {
         return checks::refused(m, Refusal::Halted);
     }
-    let e = advance(m, ram, journal, 1);
-    let after = e.machine;
+    let before = m.cpu;
+    let e = advance(before, place_of(m), ram, journal, 1);
+    let c = e.cpu;
+    let p = e.place;
     Reply {
         answer: Answer::Stepped(e.run.bus),
-        machine: after,
+        machine: machine_of(c, p),
     }
 }

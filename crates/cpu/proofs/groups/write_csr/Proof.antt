@@ -3,8 +3,8 @@ use borrow.Author.Needs.{needs}
 use Rattle.cpu.proofs.groups.write_csr.Statement.{statement}
 use Rattle.cpu.proofs.groups.write_csr.Tie as tie
 
-element-copy-out-reason : tie.Need-element-copy-out-reason
-element-copy-out-reason c = search needs
+element-copy-out-csr0 : tie.Need-element-copy-out-csr0
+element-copy-out-csr0 c = search needs
 
 low-requires : tie.Need-low-requires
 low-requires c κs = search needs
@@ -37,7 +37,7 @@ pub write-csr-spec : {M : Type 1} → statement M
 write-csr-spec =
     tie.close
     (tie.spec
-    element-copy-out-reason
+    element-copy-out-csr0
     low-requires
     high-requires
     join-requires

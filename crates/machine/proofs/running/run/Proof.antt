@@ -1,5 +1,6 @@
 use Rattle.machine.proofs.Answering.{fails, taken}
 use denote.Ref.{now}
+use mathlib.Core.Path.{_∙_}
 use Rattle.history.specs.Trace.{Call}
 use Rattle.machine.proofs.Answering.{ran-as}
 use borrow.Author.Needs.{needs}
@@ -15,8 +16,14 @@ failed-requires c κs = search needs
 returns : tie.Need-returns
 returns c = fails (c .before .before .before .before .before .args .m) (now (c .before .before .before .before .before .args .ram)) (now (c .before .before .before .before .before .args .journal)) _ (c .before .before .check-of .ensures) (Call.run (c .before .before .before .before .before .args .budget)) _ (c .before .if1 .taken) (c .failed .ensures)
 
+place-of-requires : tie.Need-place-of-requires
+place-of-requires c κs = search needs
+
 advance-requires : tie.Need-advance-requires
 advance-requires c κs = search needs
+
+machine-of-requires : tie.Need-machine-of-requires
+machine-of-requires c κs = search needs
 
 same-length : tie.Need-same-length
 same-length c = search needs
@@ -25,7 +32,7 @@ same-length-2 : tie.Need-same-length-2
 same-length-2 c = search needs
 
 returns-2 : tie.Need-returns-2
-returns-2 c = ran-as (c .before .before .before .before .before .before .before .before .before .before .before .before .before .args .m) (now (c .before .before .before .before .before .before .before .before .before .before .before .before .before .args .ram)) (now (c .before .before .before .before .before .before .before .before .before .before .before .before .before .args .journal)) _ (c .before .before .before .before .before .before .before .before .before .before .check-of .ensures) (c .before .before .before .before .before .before .before .before .before .if1 .left) (c .before .before .before .before .before .before .before .before .before .before .before .before .before .args .budget) (c .before .before .before .before .before .before .advance .result) _ _ (c .before .before .before .before .before .before .advance .ensures)
+returns-2 c = ran-as (c .before .before .before .before .before .before .before .before .before .before .before .before .before .before .before .before .before .args .m) (now (c .before .before .before .before .before .before .before .before .before .before .before .before .before .before .before .before .before .args .ram)) (now (c .before .before .before .before .before .before .before .before .before .before .before .before .before .before .before .before .before .args .journal)) _ (c .before .before .before .before .before .before .before .before .before .before .before .before .before .before .check-of .ensures) (c .before .before .before .before .before .before .before .before .before .before .before .before .before .if1 .left) (c .before .before .before .before .before .before .before .before .before .before .before .before .before .before .before .before .before .args .budget) (c .before .before .before .before .before .before .before .before .advance .result) _ _ (rw (c .before .before .before .before .before .before .before .before .before .before .before .place-of .ensures) at (c .before .before .before .before .before .before .before .before .advance .ensures)) ∙ rw (c .machine-of .ensures)
 
 pub run-spec : {M : Type 1} → statement M
 run-spec =
@@ -34,7 +41,9 @@ run-spec =
     check-of-requires
     failed-requires
     returns
+    place-of-requires
     advance-requires
+    machine-of-requires
     same-length
     same-length-2
     returns-2)
