@@ -88,7 +88,7 @@ fn with_journal(d: Desk, length: u16, most: usize) -> Desk {
 fn started(d: Desk, from: u8, ram: &mut [u8], journal: &mut [u16]) -> Desk {
     buffers::fill(ram, from);
     buffers::clear(journal);
-    let machine = state::fresh();
+    let machine = machine::state::start();
     Desk {
         machine,
         digest: 1,

@@ -11,18 +11,9 @@ pub struct Desk {
     pub line: u16,
 }
 
-pub fn fresh() -> Machine {
-    let cpu = cpu::state::reset();
-    Machine {
-        cpu,
-        next: 0,
-        held: 0,
-    }
-}
-
 // Before the first command.
 pub fn opened() -> Desk {
-    let machine = fresh();
+    let machine = machine::state::start();
     Desk {
         machine,
         digest: 1,

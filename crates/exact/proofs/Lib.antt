@@ -1,4 +1,4 @@
 pub mod Records
 pub mod Lawful
-pub mod Seen
 pub mod Single
+pub mod Seen

@@ -1,5 +1,4 @@
 -- Demand 3 over what was seen: a list of calls with the answers that came, each as its contract says, each made on what the one before it left.
--- And a contract has one result.
 use Prim.Native.Nat.{ℕ}
 use mathlib.Core.Path.{_≡_, refl, _∙_, ap}
 use mathlib.Core.List.{List, [], _∷_, map}
@@ -12,9 +11,11 @@ use Rattle.history.specs.Ring.{Ring, ringOf, ring, slots}
 use Rattle.history.proofs.Exact.{AllApt, exact}
 use Rattle.machine.specs.Record.{recordOf, decoded}
 use Rattle.machine.specs.Inputs.{Input, step, box, machine}
-use Rattle.machine.specs.Calls.{W, checkOf}
-use Rattle.exact.specs.Demand3.{start, Allowed, Made, answered, Typed, Chain, last, leftBy, left, Demand3}
+use Rattle.machine.specs.Calls.{W, checkOf, worldOf, started}
+use Rattle.machine.specs.declared.state.Machine.{Machine as MachineT}
+use Rattle.exact.specs.Demand3.{Allowed, Made, answered, Typed, Chain, last, leftBy, Demand3}
 use Rattle.exact.proofs.Records.{FineUndo}
+use Rattle.exact.proofs.Single.{world-back}
 use Rattle.exact.proofs.Lawful.{ruly, Slots, passes, grows}
 
 abbrev calls : List Made → List (Call Input)
@@ -25,24 +26,32 @@ apt (give i) t = t
 apt (run n) t = t
 apt back t = t
 
-all-apt : (w : W) (xs : List Made) → Chain w xs → AllApt machine FineUndo ruly (calls xs)
-all-apt w [] ch = tt
-all-apt w (x ∷ xs) ch = (apt (x .call) (ch .0), all-apt (answered x .world) xs (ch .2))
+all-apt : (m : MachineT) (ram ws : List ℕ) (xs : List Made) → Chain m ram ws xs → AllApt machine FineUndo ruly (calls xs)
+all-apt m ram ws [] ch = tt
+all-apt m ram ws (x ∷ xs) ch = (apt (x .call) (ch .0), all-apt (x .reply .machine) (x .ram) (x .words) xs (ch .2))
 
 abbrev P : Type 0
 P = Played machine (ring recordOf decoded) checkOf
 
--- the rules' play of the calls is what was seen
-played : (n : ℕ) (w : W) (l : Left Input) (xs : List Made) → Chain w xs →
-    _≡_ {A = P} (play machine (ring recordOf decoded) checkOf (upTo n) (calls xs) (record { world = w; left = l }))
-    (record { world = last w xs; left = leftBy n l xs })
-played n w l [] ch = refl
-played n w l (x ∷ xs) ch =
-    ap (λ (a : AnswerOf Cpu Ring). play machine (ring recordOf decoded) checkOf (upTo n) (calls xs)
-    (record { world = a .world; left = leaves (upTo n) step (x .call) (a .number) (a .steps) l })) (ch .1)
-    ∙ played n (answered x .world) _ xs (ch .2)
+abbrev at : W → Left Input → P
+at w l = record { world = w; left = l }
 
-pub demand3 : (m ws : List ℕ) (xs : List Made) → Allowed m ws → Chain (start m ws) xs → Demand3 m ws xs
+abbrev playing : ℕ → List Made → P → P
+playing n xs p = play machine (ring recordOf decoded) checkOf (upTo n) (calls xs) p
+
+abbrev leaving : ℕ → Made → Left Input → AnswerOf Cpu Ring → Left Input
+leaving n x l a = leaves (upTo n) step (x .call) (a .number) (a .steps) l
+
+-- the rules' play of the calls is what was seen
+played : (n : ℕ) (m : MachineT) (ram ws : List ℕ) (l : Left Input) (xs : List Made) → Chain m ram ws xs →
+    playing n xs (at (worldOf m ram ws) l) ≡ at (last m ram ws xs) (leftBy n l xs)
+played n m ram ws l [] ch = refl
+played n m ram ws l (x ∷ xs) ch =
+    ap (λ (a : AnswerOf Cpu Ring). playing n xs (at (a .world) (leaving n x l a))) (ch .1)
+    ∙ ap (λ (w : W). playing n xs (at w (leaving n x l (answered x)))) (world-back (x .reply .answer) (worldOf (x .reply .machine) (x .ram) (x .words)))
+    ∙ played n (x .reply .machine) (x .ram) (x .words) _ xs (ch .2)
+
+pub demand3 : (m ws : List ℕ) (xs : List Made) → Allowed m ws → Chain started m ws xs → Demand3 m ws xs
 demand3 m ws xs ok ch =
     let n = slots ws in
     let e =
@@ -50,7 +59,7 @@ demand3 m ws xs ok ch =
     (passes n (omega (arith, ok .words)))
     (record { cpu = reset-good; bytes = ok .bytes; size = ok .ram }) (ringOf ws 0 0)
     (record { sized = omega (arith, ok .whole); inside = omega arith; count = refl; room = omega arith; back = tt })
-    (calls xs) (all-apt (start m ws) xs ch)
+    (calls xs) (all-apt started m ws xs ch)
     in
-    let f = rw (played n (start m ws) (record { inputs = []; held = 0 }) xs ch) at e in
+    let f = rw (played n started m ws (record { inputs = []; held = 0 }) xs ch) at e in
     record { state = f .state; held = f .held; refused = f .refused }

@@ -64,7 +64,7 @@ answer-back (Stepped b) w = refl
 answer-back (Ran r) w = run-back (r .steps) (r .bus) (r .stop) w
 answer-back (Refused why) w = refusal-back why w
 
-world-back : (a : Answer) (w : W) → saidBy a w .world ≡ w
+pub world-back : (a : Answer) (w : W) → saidBy a w .world ≡ w
 world-back Accepted w = refl
 world-back (Stepped b) w = refl
 world-back (Ran r) w = refl

@@ -8,14 +8,11 @@ use Rattle.cpu.specs.State.{reset}
 use Rattle.cpu.specs.Good.{Within}
 use Rattle.cpu.specs.declared.state.Cpu.{Cpu}
 use Rattle.history.specs.Trace.{Answer, Call, give, run, back, Left, leaves, upTo, ruled, backNumber}
-use Rattle.history.specs.Ring.{Ring, ringOf, slots}
+use Rattle.history.specs.Ring.{Ring, slots}
 use Rattle.machine.specs.Inputs.{Input, step, tick, receive, sent, setRegister, poke, resets, box, machine}
-use Rattle.machine.specs.Calls.{W, answerOf, replied}
+use Rattle.machine.specs.Calls.{W, answerOf, worldOf, replied, Keeps, started}
+use Rattle.machine.specs.declared.state.Machine.{Machine}
 use Rattle.machine.specs.declared.state.Reply.{Reply}
-
--- "Start from reset, with memory and an empty journal"
-abbrev pub start : List ℕ → List ℕ → W
-start m ws = record { box = box reset m; journal = ringOf ws 0 0 }
 
 -- "of any allowed size"; memory is bytes
 pub record Allowed (m ws : List ℕ) : Type 0 where
@@ -49,15 +46,16 @@ Typed (give i) = Fits i
 Typed (run n) = Unit {0}
 Typed back = Unit {0}
 
--- "let only our calls touch either, and hand each call the state that the last one returned": each call keeps its promise, from the world w on
-abbrev pub Chain : W → List Made → Type 0
-Chain w [] = Unit {0}
-Chain w (x ∷ xs) = Typed (x .call) × (answerOf (x .call) w ≡ answered x) × Chain (answered x .world) xs
+-- "fixed from then on, let only our calls touch either, and hand each call the state that the last one returned": each call keeps its promise, on
+-- the machine, memory and journal that the one before it left
+abbrev pub Chain : Machine → List ℕ → List ℕ → List Made → Type 0
+Chain m ram ws [] = Unit {0}
+Chain m ram ws (x ∷ xs) = Typed (x .call) × Keeps (x .call) m ram ws (x .reply) (x .ram) (x .words) × Chain (x .reply .machine) (x .ram) (x .words) xs
 
 -- what stands after the calls
-abbrev pub last : W → List Made → W
-last w [] = w
-last w (x ∷ xs) = last (answered x .world) xs
+abbrev pub last : Machine → List ℕ → List ℕ → List Made → W
+last m ram ws [] = worldOf m ram ws
+last m ram ws (x ∷ xs) = last (x .reply .machine) (x .ram) (x .words) xs
 
 -- "the inputs not taken back", newest first, and "the number held": it "starts at 0, grows by one per accepted input up to the journal's slots
 -- (a run counts as its steps), and falls by one per step-back"; by the numbers and steps that the code returned
@@ -68,11 +66,14 @@ leftBy n l (x ∷ xs) = leftBy n (leaves (upTo n) step (x .call) (answered x .nu
 abbrev pub left : List ℕ → List Made → Left Input
 left ws xs = leftBy (slots ws) (record { inputs = []; held = 0 }) xs
 
--- "After any mix of accepted inputs and step-backs"
+-- "Start from reset, with memory and an empty journal .. After any mix of accepted inputs and step-backs"
+abbrev pub ended : List ℕ → List ℕ → List Made → W
+ended m ws xs = last started m ws xs
+
 pub record Demand3 (m ws : List ℕ) (xs : List Made) : Type 0 where
   -- "registers, status registers, halted mark, devices and memory are what demand 2's rules give for the inputs not taken back, run in order
   -- from the start"
-  pub state : ruled machine (box reset m) (left ws xs .inputs) ≡ some (last (start m ws) xs .box)
-  pub held : last (start m ws) xs .journal .held ≡ left ws xs .held
+  pub state : ruled machine (box reset m) (left ws xs .inputs) ≡ some (ended m ws xs .box)
+  pub held : ended m ws xs .journal .held ≡ left ws xs .held
   -- "A step-back is refused exactly when no record is held": with 8 then, and else with nothing, so that 1, 2, 3 and 9 never come up
-  pub refused : answerOf back (last (start m ws) xs) .number ≡ backNumber (left ws xs .held)
+  pub refused : answerOf back (ended m ws xs) .number ≡ backNumber (left ws xs .held)

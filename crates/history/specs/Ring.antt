@@ -13,10 +13,11 @@ pub record Ring : Type 0 where
   pub next : ℕ
   pub held : ℕ
 
--- "moves next slot back (from 0 to the last)", and its inverse, of n slots
+-- the slot after k, of n slots: after the last comes the first
 abbrev pub slotAfter : ℕ → ℕ → ℕ
 slotAfter n k = cond (eqb (k + 1) n) 0 (k + 1)
 
+-- "moves next slot back (from 0 to the last)"
 abbrev pub slotBefore : ℕ → ℕ → ℕ
 slotBefore n zero = n - 1
 slotBefore n (suc k) = k
@@ -28,7 +29,7 @@ ringOf ws next held = record { words = ws; next = next; held = held }
 abbrev pub slotWords : List ℕ → ℕ → List ℕ
 slotWords ws k = take 32 (drop (k * 32) ws)
 
--- "writes one record at the next slot, over the oldest if full"; "With no slots nothing is written": no next slot is below 0
+-- "writes one record at the next slot, over the oldest if full"; "With no slots nothing is written": then next is below none
 unfoldable pub pushed : ℕ → List ℕ → Ring → Ring
 pushed n r j =
     cond (ltb (j .next) n) (ringOf (paste (j .words) (j .next * 32) r 32) (slotAfter n (j .next)) (min n (j .held + 1))) j

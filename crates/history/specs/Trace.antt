@@ -97,7 +97,7 @@ pub record Left (I : Type 0) : Type 0 where
   pub inputs : List I
   pub held : ℕ
 
--- how the number held grows by an accepted input, given the inputs not taken back, the new one first: by one, up to the slots
+-- how the number held grows by an accepted input: by one, up to the slots; another journal's rule may also look at the inputs not taken back
 abbrev pub upTo : {I : Type 0} → ℕ → List I → ℕ → ℕ
 upTo slots is n = min slots (n + 1)
 

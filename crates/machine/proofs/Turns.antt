@@ -27,7 +27,7 @@ recorded c m none = refl
 recorded c m (one a x) = refl
 recorded c m (two a x y) = refl
 
-pub step-goes : (b : Box Cpu) → b .cpu .halted ≡ false → nextOf step b ≡ gives (stepped (b .ram) (stepOf (b .cpu) (b .ram)))
+pub step-goes : (b : Box Cpu) → b .cpu .halted ≡ false → nextOf step b ≡ gives (stepped (stepOf (b .cpu) (b .ram)))
 unfolding nextOf
 step-goes b h = rw h
 
@@ -63,7 +63,7 @@ module _ (g k : List ℕ) (v : Devices) (h : Bool) (m ws : List ℕ) (next held 
       → toldAs g′ k′ q m′ ≡ toldOf m (stepOf c m)
       → r ≡ recordWith c (q .count) (q .first) (q .old)
       → ringOf ws′ next′ held′ ≡ pushed (slots ws) r (ringOf ws next held)
-      → world g′ k′ (q .devices) (q .halted) m′ ws′ next′ held′ ≡ after machine (ring recordOf decoded) w (stepped m (stepOf c m))
+      → world g′ k′ (q .devices) (q .halted) m′ ws′ next′ held′ ≡ after machine (ring recordOf decoded) w (stepped (stepOf c m))
   goes-on q g′ k′ m′ r ws′ next′ held′ e er ej =
       let x : Step = stepOf c m in
       let s : tells (cpu g′ k′ (q .devices) (q .halted)) m′ (q .count) (q .first) (q .bus) ≡ x = ap (λ (y : Told). y .step) e in
@@ -92,7 +92,7 @@ module _ (g k : List ℕ) (v : Devices) (h : Bool) (m ws : List ℕ) (next held 
         rest =
             ap (λ (y : ℕ). more (n + 1) (b + y) (runs (budget - (n + 1)) (world g′ k′ (q .devices) (q .halted) m′ ws′ next′ held′))) eb
             ∙ ap (λ (y : W). more (n + 1) (b + stepOf c m .bus) (runs (budget - (n + 1)) y)) (goes-on q g′ k′ m′ r ws′ next′ held′ e er ej)
-            ∙ sym (ran-more machine (ring recordOf decoded) budget n b w (stepped m (stepOf c m)) l (step-goes (box c m) hh)) ∙ i .rest;
+            ∙ sym (ran-more machine (ring recordOf decoded) budget n b w (stepped (stepOf c m)) l (step-goes (box c m) hh)) ∙ i .rest;
       }
 
   pub begin : (budget : ℕ) → Going budget (runs budget w) 0 0 w
@@ -103,4 +103,4 @@ module _ (g k : List ℕ) (v : Devices) (h : Bool) (m ws : List ℕ) (next held 
 
   pub ends : (budget n b : ℕ) (start : AnswerOf Cpu Ring) → h ≡ false → n ≡ budget → Going budget start n b w → start ≡ answers 0 n b spent w
   ends budget n b start hh e i =
-      sym (i .rest) ∙ ran-done machine (ring recordOf decoded) budget n b w (stepped m (stepOf c m)) (omega (arith, e)) (step-goes (box c m) hh)
+      sym (i .rest) ∙ ran-done machine (ring recordOf decoded) budget n b w (stepped (stepOf c m)) (omega (arith, e)) (step-goes (box c m) hh)

@@ -1,10 +1,11 @@
 -- "Numbered answers": what each call answers, and how the code's answers stand for it.
 use Prim.Native.Nat.{ℕ, _/_, _%_}
 use mathlib.Core.Bool.{Bool, cond, _&&_, _||_}
+use mathlib.Core.Path.{_≡_}
 use mathlib.Core.List.{List}
 use lib.Dec.{leb, ltb, eqb}
 use lib.ListN.{length}
-use Rattle.cpu.specs.State.{word}
+use Rattle.cpu.specs.State.{word, reset}
 use Rattle.cpu.specs.declared.state.Cpu.{Cpu}
 use Rattle.history.specs.Trace.{World, Cause, no-run, budget, stopped, Answer as AnswerOf, answers, Call, answer}
 use Rattle.history.specs.Ring.{Ring, ringOf, ring}
@@ -71,11 +72,11 @@ numberOf Refusal.BadRecord = 9
 abbrev pub firstRefusal : ℕ → Refusal
 firstRefusal n = cond (eqb n 1) Refusal.RamTooLong (cond (eqb n 2) Refusal.BadJournal Refusal.BadState)
 
--- the paper's number and values for each case of an answer
 abbrev pub causeIs : Stop → Cause
 causeIs Halted = stopped
 causeIs Budget = budget
 
+-- the paper's number and values for each case of an answer
 abbrev pub saidBy : Answer → W → AnswerOf Cpu Ring
 saidBy Accepted w = answers 0 0 0 no-run w
 saidBy (Stepped bus) w = answers 0 1 bus no-run w
@@ -84,6 +85,14 @@ saidBy (Refused why) w = answers (numberOf why) 0 0 no-run w
 
 abbrev pub replied : Reply → List ℕ → List ℕ → AnswerOf Cpu Ring
 replied r ram ws = saidBy (r .answer) (worldOf (r .machine) ram ws)
+
+-- what each call promises: of the machine, RAM and journal before, and of its reply, RAM and journal after
+abbrev pub Keeps : Call Input → MachineT → List ℕ → List ℕ → Reply → List ℕ → List ℕ → Type 0
+Keeps c m ram ws r ram′ ws′ = answerOf c (worldOf m ram ws) ≡ replied r ram′ ws′
+
+-- "The starting state is this one with next slot and records held 0."
+abbrev pub started : MachineT
+started = record { cpu = reset; next = 0; held = 0 }
 
 -- a refusal as the code has it
 abbrev pub refuse : MachineT → Refusal → Reply

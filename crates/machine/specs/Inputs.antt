@@ -53,18 +53,18 @@ unfoldable pub registerSet : ℕ → ℕ → Cpu → Cpu
 registerSet i w c = cpu (set (c .regs) i w) (c .csrs) (c .devices) (cond (eqb i F && not (bitAt w 9)) false (c .halted))
 
 -- "Step: see below"
-abbrev pub stepped : List ℕ → Step → Effect Cpu
-stepped m x = effect (x .cpu) (x .ram) (x .count) (x .first) (x .bus)
+abbrev pub stepped : Step → Effect Cpu
+stepped x = effect (x .cpu) (x .ram) (x .count) (x .first) (x .bus)
 
 -- 4: "lone step while halted"; 5: "Receive while R=1, or Sent while T=1"; 6: "register number over 15"; 7: "Poke at no RAM address"
 unfoldable pub nextOf : Input → Box Cpu → Next Cpu
-nextOf step b = cond (b .cpu .halted) (refuses 4) (gives (stepped (b .ram) (stepOf (b .cpu) (b .ram))))
+nextOf step b = cond (b .cpu .halted) (refuses 4) (gives (stepped (stepOf (b .cpu) (b .ram))))
 nextOf tick b = quietly (ticked (b .cpu)) (b .ram)
 nextOf (receive x) b = cond (b .cpu .devices .r) (refuses 5) (quietly (received x (b .cpu)) (b .ram))
 nextOf sent b = cond (b .cpu .devices .t) (refuses 5) (quietly (sentOff (b .cpu)) (b .ram))
 nextOf (setRegister i w) b = cond (ltb i 16) (quietly (registerSet i w (b .cpu)) (b .ram)) (refuses 6)
 nextOf (poke a x) b = cond (ltb a (length (b .ram))) (gives (effect (b .cpu) (set (b .ram) a x) 1 a 0)) (refuses 7)
--- "Reset .. RAM as it is"
+-- "RAM as it is"; "Reset as an input keeps the journal and is recorded like any other"
 nextOf resets b = quietly reset (b .ram)
 
 -- a lone step counts as one, every other input as none

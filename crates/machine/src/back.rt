@@ -10,7 +10,7 @@ ghost use mathlib.Core.Path.{_≡_};
 ghost use lib.ListN.{set};
 ghost use Rattle.history.specs.Undo.{restored};
 ghost use Rattle.history.specs.Trace.{back};
-ghost use Rattle.machine.specs.Calls.{answerOf, worldOf, replied};
+ghost use Rattle.machine.specs.Calls.{Keeps};
 
 // One byte, where it is RAM.
 fn put(ram: &mut [u8], at: u16, b: u8)
@@ -37,7 +37,7 @@ fn restore(ram: &mut [u8], count: u16, at: u16, low: u8, high: u8)
 }
 
 pub fn step_back(m: Machine, ram: &mut [u8], journal: &[u16]) -> Reply
-    ensures { λ r. ⌜ answerOf back (worldOf m (now (ram .entry)) (now (journal .entry))) ≡ replied r (now (ram .exit)) (now (journal .entry)) ⌝ }
+    ensures { λ r. ⌜ Keeps back m (now (ram .entry)) (now (journal .entry)) r (now (ram .exit)) (now (journal .entry)) ⌝ }
 {
     let n = checks::check_of(m, ram.len(), journal.len());
     if n != 0 {

@@ -20,7 +20,7 @@ ghost use Rattle.history.specs.Trace.{give, gave};
 ghost use Rattle.history.specs.Ring.{ringOf, ring, pushed, slots};
 ghost use Rattle.machine.specs.Record.{recordWith, recordOf, decoded};
 ghost use Rattle.machine.specs.Inputs.{Input, signalled, ticked as tickedOf, received as receivedOf, sentOff, registerSet, quietly, machine};
-ghost use Rattle.machine.specs.Calls.{answerOf, worldOf, replied};
+ghost use Rattle.machine.specs.Calls.{Keeps, worldOf, replied};
 
 const F: usize = Reg::F.number as usize;
 
@@ -83,7 +83,7 @@ fn ticked(c: Cpu) -> Cpu
 }
 
 pub fn tick(m: Machine, ram: &mut [u8], journal: &mut [u16]) -> Reply
-    ensures { λ r. ⌜ answerOf (give Input.tick) (worldOf m (now (ram .entry)) (now (journal .entry))) ≡ replied r (now (ram .exit)) (now (journal .exit)) ⌝ }
+    ensures { λ r. ⌜ Keeps (give Input.tick) m (now (ram .entry)) (now (journal .entry)) r (now (ram .exit)) (now (journal .exit)) ⌝ }
 {
     let n = checks::check_of(m, ram.len(), journal.len());
     if n != 0 {
@@ -102,7 +102,7 @@ fn received(c: Cpu, b: u8) -> Cpu
 }
 
 pub fn receive(m: Machine, ram: &mut [u8], journal: &mut [u16], b: u8) -> Reply
-    ensures { λ r. ⌜ answerOf (give (Input.receive b)) (worldOf m (now (ram .entry)) (now (journal .entry))) ≡ replied r (now (ram .exit)) (now (journal .exit)) ⌝ }
+    ensures { λ r. ⌜ Keeps (give (Input.receive b)) m (now (ram .entry)) (now (journal .entry)) r (now (ram .exit)) (now (journal .exit)) ⌝ }
 {
     let n = checks::check_of(m, ram.len(), journal.len());
     if n != 0 {
@@ -123,7 +123,7 @@ fn sent_off(c: Cpu) -> Cpu
 }
 
 pub fn sent(m: Machine, ram: &mut [u8], journal: &mut [u16]) -> Reply
-    ensures { λ r. ⌜ answerOf (give Input.sent) (worldOf m (now (ram .entry)) (now (journal .entry))) ≡ replied r (now (ram .exit)) (now (journal .exit)) ⌝ }
+    ensures { λ r. ⌜ Keeps (give Input.sent) m (now (ram .entry)) (now (journal .entry)) r (now (ram .exit)) (now (journal .exit)) ⌝ }
 {
     let n = checks::check_of(m, ram.len(), journal.len());
     if n != 0 {
@@ -160,7 +160,7 @@ pub fn set_register(
     number: u8,
     content: u16,
 ) -> Reply
-    ensures { λ r. ⌜ answerOf (give (Input.setRegister number content)) (worldOf m (now (ram .entry)) (now (journal .entry))) ≡ replied r (now (ram .exit)) (now (journal .exit)) ⌝ }
+    ensures { λ r. ⌜ Keeps (give (Input.setRegister number content)) m (now (ram .entry)) (now (journal .entry)) r (now (ram .exit)) (now (journal .exit)) ⌝ }
 {
     let n = checks::check_of(m, ram.len(), journal.len());
     if n != 0 {
@@ -173,7 +173,7 @@ pub fn set_register(
 }
 
 pub fn poke(m: Machine, ram: &mut [u8], journal: &mut [u16], at: u16, b: u8) -> Reply
-    ensures { λ r. ⌜ answerOf (give (Input.poke at b)) (worldOf m (now (ram .entry)) (now (journal .entry))) ≡ replied r (now (ram .exit)) (now (journal .exit)) ⌝ }
+    ensures { λ r. ⌜ Keeps (give (Input.poke at b)) m (now (ram .entry)) (now (journal .entry)) r (now (ram .exit)) (now (journal .exit)) ⌝ }
 {
     let n = checks::check_of(m, ram.len(), journal.len());
     if n != 0 {
@@ -198,7 +198,7 @@ pub fn poke(m: Machine, ram: &mut [u8], journal: &mut [u16], at: u16, b: u8) -> 
 }
 
 pub fn reset(m: Machine, ram: &mut [u8], journal: &mut [u16]) -> Reply
-    ensures { λ r. ⌜ answerOf (give Input.resets) (worldOf m (now (ram .entry)) (now (journal .entry))) ≡ replied r (now (ram .exit)) (now (journal .exit)) ⌝ }
+    ensures { λ r. ⌜ Keeps (give Input.resets) m (now (ram .entry)) (now (journal .entry)) r (now (ram .exit)) (now (journal .exit)) ⌝ }
 {
     let n = checks::check_of(m, ram.len(), journal.len());
     if n != 0 {

@@ -16,7 +16,7 @@ ghost use Rattle.history.specs.Trace.{Call, give, ran};
 ghost use Rattle.history.specs.Ring.{ring};
 ghost use Rattle.machine.specs.Record.{recordOf, decoded};
 ghost use Rattle.machine.specs.Inputs.{Input, machine};
-ghost use Rattle.machine.specs.Calls.{answerOf, worldOf, replied, standing, runTold, ranAs, machineAt, placeIn};
+ghost use Rattle.machine.specs.Calls.{Keeps, standing, runTold, ranAs, machineAt, placeIn};
 
 // What a run leaves.
 struct Ended {
@@ -92,7 +92,7 @@ fn place_of(m: Machine) -> Place
 }
 
 pub fn run(m: Machine, ram: &mut [u8], journal: &mut [u16], budget: u16) -> Reply
-    ensures { λ r. ⌜ answerOf (Call.run budget) (worldOf m (now (ram .entry)) (now (journal .entry))) ≡ replied r (now (ram .exit)) (now (journal .exit)) ⌝ }
+    ensures { λ r. ⌜ Keeps (Call.run budget) m (now (ram .entry)) (now (journal .entry)) r (now (ram .exit)) (now (journal .exit)) ⌝ }
 {
     let n = checks::check_of(m, ram.len(), journal.len());
     if n != 0 {
@@ -110,7 +110,7 @@ pub fn run(m: Machine, ram: &mut [u8], journal: &mut [u16], budget: u16) -> Repl
 }
 
 pub fn step(m: Machine, ram: &mut [u8], journal: &mut [u16]) -> Reply
-    ensures { λ r. ⌜ answerOf (give Input.step) (worldOf m (now (ram .entry)) (now (journal .entry))) ≡ replied r (now (ram .exit)) (now (journal .exit)) ⌝ }
+    ensures { λ r. ⌜ Keeps (give Input.step) m (now (ram .entry)) (now (journal .entry)) r (now (ram .exit)) (now (journal .exit)) ⌝ }
 {
     let n = checks::check_of(m, ram.len(), journal.len());
     if n != 0 {

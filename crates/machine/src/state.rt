@@ -1,12 +1,24 @@
 // The machine by value, and what a call answers.
 use cpu::state::Cpu;
 ghost use mathlib.Core.Path.{_≡_};
-ghost use Rattle.machine.specs.Calls.{numberOf};
+ghost use Rattle.machine.specs.Calls.{numberOf, started};
 
 pub struct Machine {
     pub cpu: Cpu,
     pub next: usize,
     pub held: usize,
+}
+
+// The starting state.
+pub fn start() -> Machine
+    ensures { λ r. ⌜ r ≡ started ⌝ }
+{
+    let cpu = cpu::state::reset();
+    Machine {
+        cpu,
+        next: 0,
+        held: 0,
+    }
 }
 
 pub enum Stop {
