@@ -1,5 +1,5 @@
 // What a call answers and leaves, and the lent bytes and words, absorbed one by one.
-use cpu::state::Devices;
+use bus::state::Devices;
 use machine::state::Answer;
 use machine::state::Machine;
 use machine::state::Refusal;

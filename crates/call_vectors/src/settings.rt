@@ -4,7 +4,7 @@ use crate::commands::Command;
 use crate::digest;
 use crate::state;
 use crate::state::Desk;
-use cpu::state::Cpu;
+use bus::state::Cpu;
 use machine::state::Machine;
 use word::sums;
 

@@ -14,15 +14,15 @@ use Rattle.isa.specs.declared.opcode.LoadOp.{LoadOp}
 use Rattle.isa.specs.declared.opcode.StoreOp.{StoreOp}
 use Rattle.isa.specs.declared.opcode.Op.{Op}
 use Rattle.isa.specs.declared.opcode.Op.the-variants.{Illegal, Alu, Compare, Move, Load, Store}
-use Rattle.cpu.specs.State.{F, PC, word, cpu}
-use Rattle.cpu.specs.Addresses.{after, byteAt}
-use Rattle.cpu.specs.Instructions.{computed, compared, Moved, both, moved, Loaded, loads, loaded, stored}
+use Rattle.bus.specs.State.{F, PC, word, cpu}
+use Rattle.bus.specs.Addresses.{after, byteAt, oldBytes}
+use Rattle.bus.specs.declared.state.Cpu.{Cpu}
+use Rattle.bus.specs.declared.state.Devices.{Devices}
+use Rattle.instructions.specs.Instructions.{computed, compared, Moved, both, moved, Loaded, loads, loaded, stored}
+use Rattle.instructions.specs.Over.{Over, overOf, overAs}
+use Rattle.instructions.specs.declared.storing.Written.{Written}
 use Rattle.cpu.specs.Exceptions.{due, entered, illegal, settle, settledCsrs, settledHalt}
-use Rattle.cpu.specs.Step.{Step, tells, quiet, onMoved, onLoaded, onStored, executed, runs, stepBy, stepOf, listed, oldBytes, Told, toldOf, toldAs}
-use Rattle.cpu.specs.Lent.{Over, overOf, overAs, quietly}
-use Rattle.cpu.specs.declared.state.Cpu.{Cpu}
-use Rattle.cpu.specs.declared.state.Devices.{Devices}
-use Rattle.cpu.specs.declared.groups.Written.{Written}
+use Rattle.cpu.specs.Step.{Step, tells, quiet, onMoved, onLoaded, onStored, executed, runs, stepBy, stepOf, listed, quietly, Told, toldOf, toldAs}
 use Rattle.cpu.specs.declared.step.Done.{Done}
 
 abbrev told : Step → ℕ → Told

@@ -1,20 +1,19 @@
 -- "One step", and what it tells: the next state, the memory, how many bytes it wrote through memory, their first address, how many bus bytes.
-use mathlib.Core.Bool.{cond}
+use mathlib.Core.Bool.{Bool, cond}
 use mathlib.Core.List.{List}
 use Prim.Native.Nat.{ℕ, _+_}
-use lib.Dec.{eqb}
 use lib.ListN.{getD, set}
-use Rattle.word.specs.Word.{plusAt, joinAt, lowAt, highAt}
+use Rattle.word.specs.Word.{plusAt, lowAt, highAt}
 use Rattle.isa.specs.Opcode.{meaning}
 use Rattle.isa.specs.Table.{operationOf}
 use Rattle.isa.specs.declared.opcode.Op.{Op}
 use Rattle.isa.specs.declared.opcode.Op.the-variants.{Illegal, Alu, Compare, Move, Load, Store}
-use Rattle.cpu.specs.State.{F, PC, word, cpu}
-use Rattle.cpu.specs.Addresses.{after, byteAt}
-use Rattle.cpu.specs.Instructions.{computed, compared, Moved, moved, Loaded, loaded, Stored, stored}
+use Rattle.bus.specs.State.{F, PC, word, cpu}
+use Rattle.bus.specs.Addresses.{after, byteAt, oldBytes}
+use Rattle.instructions.specs.Instructions.{computed, compared, Moved, moved, Loaded, loaded, Stored, stored}
 use Rattle.cpu.specs.Exceptions.{due, entered, illegal, settle}
-use Rattle.cpu.specs.declared.state.Cpu.{Cpu}
-use Rattle.cpu.specs.declared.state.Devices.{Devices}
+use Rattle.bus.specs.declared.state.Cpu.{Cpu}
+use Rattle.bus.specs.declared.state.Devices.{Devices}
 use Rattle.cpu.specs.declared.step.Done.{Done}
 
 pub record Step : Type 0 where
@@ -85,10 +84,6 @@ stepOf c m = stepBy (λ o. meaning o .op) c m
 abbrev pub listed : List ℕ → ℕ → Op
 listed table o = operationOf (getD table o 0)
 
--- the bytes that a step wrote over: "old first byte + 256·old second (0 where not RAM or not written)"
-unfoldable pub oldBytes : List ℕ → ℕ → ℕ → ℕ
-oldBytes m n a = cond (eqb n 0) 0 (joinAt 8 (word m a) (cond (eqb n 2) (word m (after a)) 0))
-
 -- a step with the bytes that it wrote over
 pub record Told : Type 0 where
   pub step : Step
@@ -101,3 +96,7 @@ toldOf m x = record { step = x; old = oldBytes m (x .count) (x .first) }
 -- by the code: lent registers, CSRs and memory as they are left, and the rest as it is returned
 abbrev pub toldAs : List ℕ → List ℕ → Done → List ℕ → Told
 toldAs g k q m = record { step = tells (cpu g k (q .devices) (q .halted)) m (q .count) (q .first) (q .bus); old = q .old }
+
+-- what the code returns of a step that wrote nothing through memory
+abbrev pub quietly : Devices → Bool → ℕ → Done
+quietly v h n = record { devices = v; halted = h; count = 0; first = 0; old = 0; bus = n }

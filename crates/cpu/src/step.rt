@@ -1,22 +1,21 @@
 // One step.
-use crate::bus;
 use crate::exceptions;
-use crate::groups;
-use crate::state::Devices;
+use bus::address;
+use bus::state::Devices;
+use instructions::computing;
+use instructions::loading;
+use instructions::moving;
+use instructions::storing;
 use isa::opcode;
 use isa::opcode::Op;
-use isa::register::Reg;
+use isa::register::F;
+use isa::register::PC;
 use word::sums;
 ghost use mathlib.Core.Path.{_≡_};
 ghost use Rattle.isa.specs.Table.{TellsAll};
 ghost use Rattle.word.specs.Word.{lowAt, highAt};
-ghost use Rattle.cpu.specs.State.{cpu};
-ghost use Rattle.cpu.specs.Lent.{quietly};
-ghost use Rattle.cpu.specs.Step.{executed, stepBy, stepOf, listed, toldOf, toldAs};
-
-const F: usize = Reg::F.number as usize;
-
-const PC: usize = Reg::PC.number as usize;
+ghost use Rattle.bus.specs.State.{cpu};
+ghost use Rattle.cpu.specs.Step.{executed, stepBy, stepOf, listed, quietly, toldOf, toldAs};
 
 // What a step leaves, beside the lent registers, CSRs and bytes: the device registers, the halted mark, how many bytes it wrote through memory,
 // their first address, what they wrote over, how many bus bytes.
@@ -59,27 +58,27 @@ fn execute(
     match op {
         Op::Illegal(reason) => quiet(v, exceptions::raise(regs, csrs, reason, halted), 2),
         Op::Alu(x) => {
-            groups::compute(regs, x, operands);
+            computing::compute(regs, x, operands);
             let f = regs[F];
             quiet(v, exceptions::settle(csrs, before, f, halted), 2)
         }
         Op::Compare(x) => {
-            groups::compare(regs, x, operands);
+            computing::compare(regs, x, operands);
             let f = regs[F];
             quiet(v, exceptions::settle(csrs, before, f, halted), 2)
         }
         Op::Move(x) => {
-            groups::transfer(regs, csrs, x, opcode, operands);
+            moving::transfer(regs, csrs, x, opcode, operands);
             let f = regs[F];
             quiet(v, exceptions::settle(csrs, before, f, halted), 2)
         }
         Op::Load(x) => {
-            let n = groups::load(regs, v, ram, x, opcode, operands);
+            let n = loading::load(regs, v, ram, x, opcode, operands);
             let f = regs[F];
             quiet(v, exceptions::settle(csrs, before, f, halted), 2 + n)
         }
         Op::Store(x) => {
-            let w = groups::store(regs, v, ram, x, operands);
+            let w = storing::store(regs, v, ram, x, operands);
             let f = regs[F];
             let h = exceptions::settle(csrs, before, f, halted);
             let u = w.devices;
@@ -113,8 +112,8 @@ pub fn step(
         return quiet(v, halted, 0);
     }
     let pc = regs[PC];
-    let first = bus::read_byte(v, ram, pc);
-    let second = bus::read_byte(v, ram, sums::plus(pc, 1));
+    let first = address::read_byte(v, ram, pc);
+    let second = address::read_byte(v, ram, sums::plus(pc, 1));
     regs[PC] = sums::plus(pc, 2);
     execute(
         regs,

@@ -10,12 +10,14 @@ use lib.ListN.{length, length-set, take, length-take}
 use Rattle.word.specs.Word.{joinAt, lowAt}
 use Rattle.word.proofs.Width.{low-below, plus-below}
 use Rattle.word.proofs.Digits.{below}
-use Rattle.cpu.specs.State.{F, word, devices}
-use Rattle.cpu.specs.Good.{Within, GoodDevices, Good, Changed, none, one, two}
-use Rattle.cpu.specs.declared.state.Cpu.{Cpu}
-use Rattle.cpu.specs.declared.state.Devices.{Devices}
-use Rattle.cpu.proofs.Kept.{picked, within-set, reg-set, csr0-set, step-good, reset-good}
-use Rattle.cpu.proofs.Touched.{step-changes, kept-length}
+use Rattle.bus.specs.State.{F, word, devices}
+use Rattle.bus.specs.Good.{Within, GoodDevices, Good, Changed, none, one, two}
+use Rattle.bus.specs.declared.state.Cpu.{Cpu}
+use Rattle.bus.specs.declared.state.Devices.{Devices}
+use Rattle.bus.proofs.Kept.{picked, within-set, reg-set, csr0-set, reset-good}
+use Rattle.bus.proofs.Touched.{kept-length}
+use Rattle.cpu.proofs.Kept.{step-good}
+use Rattle.cpu.proofs.Touched.{step-changes}
 use Rattle.isa.specs.Opcode.{meaning}
 use Rattle.history.specs.Undo.{Touched}
 use Rattle.history.specs.Trace.{Box, Next, gives, Undo, undoOf}

@@ -11,8 +11,8 @@ use lib.ListN.{length, take, getD}
 use lib.Seq.{take-all}
 use Rattle.word.specs.Bits.{bitAt}
 use Rattle.word.proofs.Width.{low-join, high-join}
-use Rattle.cpu.specs.State.{word}
-use Rattle.cpu.specs.declared.state.Cpu.{Cpu}
+use Rattle.bus.specs.State.{word}
+use Rattle.bus.specs.declared.state.Cpu.{Cpu}
 use Rattle.history.specs.Trace.{Undo}
 use Rattle.machine.specs.Record.{part, marks, recordWith, recordOf, undoFrom, sound, decoded}
 

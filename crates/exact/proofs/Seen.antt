@@ -3,9 +3,9 @@ use Prim.Native.Nat.{ℕ}
 use mathlib.Core.Path.{_≡_, refl, _∙_, ap}
 use mathlib.Core.List.{List, [], _∷_, map}
 use native.Mathlib.Omega.{arith}
-use Rattle.cpu.specs.State.{reset}
-use Rattle.cpu.specs.declared.state.Cpu.{Cpu}
-use Rattle.cpu.proofs.Kept.{reset-good}
+use Rattle.bus.specs.State.{reset}
+use Rattle.bus.specs.declared.state.Cpu.{Cpu}
+use Rattle.bus.proofs.Kept.{reset-good}
 use Rattle.history.specs.Trace.{Answer as AnswerOf, Call, give, run, back, Left, leaves, upTo, Played, play}
 use Rattle.history.specs.Ring.{Ring, ringOf, ring, slots}
 use Rattle.history.proofs.Exact.{AllApt, exact}

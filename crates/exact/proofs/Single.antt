@@ -1,13 +1,16 @@
--- No second result: a call's promise, and the step's and the bus's below it, leave one result, one memory and one journal.
+-- No second result: a call's promise, and those of the step, the instructions and the bus below it, leave one result, one memory and one journal.
 use Prim.Native.Nat.{ℕ, zero, suc}
 use mathlib.Core.Path.{_≡_, refl, _∙_, sym, ap}
 use mathlib.Core.Bool.{cond}
 use mathlib.Core.List.{List}
 use lib.Dec.{eqb}
-use Rattle.cpu.specs.Addresses.{Bus, bus}
+use Rattle.bus.specs.Addresses.{Bus, bus}
+use Rattle.bus.specs.declared.state.Cpu.{Cpu}
+use Rattle.bus.specs.declared.state.Devices.{Devices}
+use Rattle.instructions.specs.Instructions.{Moved, both, Loaded, loads}
+use Rattle.instructions.specs.Over.{Over, overAs}
+use Rattle.instructions.specs.declared.storing.Written.{Written}
 use Rattle.cpu.specs.Step.{Told, toldAs}
-use Rattle.cpu.specs.declared.state.Cpu.{Cpu}
-use Rattle.cpu.specs.declared.state.Devices.{Devices}
 use Rattle.cpu.specs.declared.step.Done.{Done}
 use Rattle.history.specs.Trace.{Answer as AnswerOf, Cause, no-run, budget, stopped, Call}
 use Rattle.history.specs.Ring.{Ring}
@@ -119,3 +122,16 @@ single-step g g′ k k′ m m′ q q′ e =
 -- for a write: the devices and memory
 pub single-write : (v v′ : Devices) (m m′ : List ℕ) → bus v m ≡ bus v′ m′ → (v ≡ v′) × (m ≡ m′)
 single-write v v′ m m′ e = (ap (λ (u : Bus). u .devices) e, ap (λ (u : Bus). u .ram) e)
+
+-- for the instructions whose promise is of more than the registers: CSRs, how many bytes were loaded, memory and all that a store returns
+pub single-move : (g g′ k k′ : List ℕ) → both g k ≡ both g′ k′ → (g ≡ g′) × (k ≡ k′)
+single-move g g′ k k′ e = (ap (λ (x : Moved). x .regs) e, ap (λ (x : Moved). x .csrs) e)
+
+pub single-load : (g g′ : List ℕ) (n n′ : ℕ) → loads g n ≡ loads g′ n′ → (g ≡ g′) × (n ≡ n′)
+single-load g g′ n n′ e = (ap (λ (x : Loaded). x .regs) e, ap (λ (x : Loaded). x .bytes) e)
+
+pub single-store : (g g′ m m′ : List ℕ) (q q′ : Written) → overAs g q m ≡ overAs g′ q′ m′ → (g ≡ g′) × (m ≡ m′) × (q ≡ q′)
+single-store g g′ m m′ q q′ e = (ap (λ (x : Over). x .stored .regs) e, ap (λ (x : Over). x .stored .bus .ram) e, ap writtenFrom e)
+  where
+    writtenFrom : Over → Written
+    writtenFrom x = record { devices = x .stored .bus .devices; count = x .stored .count; first = x .stored .first; old = x .old }

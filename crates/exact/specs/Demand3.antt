@@ -4,9 +4,9 @@ use mathlib.Core.Path.{_≡_}
 use mathlib.Core.List.{List, [], _∷_}
 use mathlib.Core.Option.{some}
 use lib.ListN.{length}
-use Rattle.cpu.specs.State.{reset}
-use Rattle.cpu.specs.Good.{Within}
-use Rattle.cpu.specs.declared.state.Cpu.{Cpu}
+use Rattle.bus.specs.State.{reset}
+use Rattle.bus.specs.Good.{Within}
+use Rattle.bus.specs.declared.state.Cpu.{Cpu}
 use Rattle.history.specs.Trace.{Answer, Call, give, run, back, Left, leaves, upTo, ruled, backNumber}
 use Rattle.history.specs.Ring.{Ring, slots}
 use Rattle.machine.specs.Inputs.{Input, step, tick, receive, sent, setRegister, poke, resets, box, machine}

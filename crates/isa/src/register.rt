@@ -8,6 +8,13 @@ pub struct Reg {
     pub number: u8,
 }
 
+// Where the registers that the rules name stand among the sixteen.
+pub const IA: usize = Reg::IA.number as usize;
+
+pub const F: usize = Reg::F.number as usize;
+
+pub const PC: usize = Reg::PC.number as usize;
+
 pub enum FoundReg {
     Is(Reg),
     Unknown,

@@ -11,8 +11,8 @@ use borrow.Author.Tests.{lt-ltb, le-ltb, leb-true, ltb-true, eqb-true}
 use lib.Dec.{leb, ltb, eqb}
 use lib.ListN.{length, set}
 use Rattle.word.specs.Word.{joinAt}
-use Rattle.cpu.specs.State.{word}
-use Rattle.cpu.specs.declared.state.Cpu.{Cpu}
+use Rattle.bus.specs.State.{word}
+use Rattle.bus.specs.declared.state.Cpu.{Cpu}
 use Rattle.history.specs.Undo.{restored}
 use Rattle.history.specs.Trace.{Box, Effect, Next, refuses, gives, Undo, no-run, Answer as AnswerOf, answers, refusal, Call, give, back, gave, backed, guarded, plain, ran, after}
 use Rattle.history.specs.Ring.{Ring, ringOf, slotBefore, slotWords, pushed, popped, poppedAt, slots, ring, readable}

@@ -4,11 +4,12 @@ use mathlib.Core.Path.{_≡_, refl, sym, _∙_, ap}
 use mathlib.Core.Bool.{Bool, true, false}
 use mathlib.Core.List.{List}
 use native.Mathlib.Omega.{arith}
-use Rattle.cpu.specs.State.{cpu}
-use Rattle.cpu.specs.Step.{Step, tells, stepOf, oldBytes, Told, toldOf, toldAs}
-use Rattle.cpu.specs.Good.{Changed, none, one, two}
-use Rattle.cpu.specs.declared.state.Cpu.{Cpu}
-use Rattle.cpu.specs.declared.state.Devices.{Devices}
+use Rattle.bus.specs.State.{cpu}
+use Rattle.bus.specs.Addresses.{oldBytes}
+use Rattle.bus.specs.Good.{Changed, none, one, two}
+use Rattle.bus.specs.declared.state.Cpu.{Cpu}
+use Rattle.bus.specs.declared.state.Devices.{Devices}
+use Rattle.cpu.specs.Step.{Step, tells, stepOf, Told, toldOf, toldAs}
 use Rattle.cpu.specs.declared.step.Done.{Done}
 use Rattle.cpu.proofs.Touched.{step-changes}
 use Rattle.isa.specs.Opcode.{meaning}

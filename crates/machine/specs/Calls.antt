@@ -5,8 +5,8 @@ use mathlib.Core.Path.{_≡_}
 use mathlib.Core.List.{List}
 use lib.Dec.{leb, ltb, eqb}
 use lib.ListN.{length}
-use Rattle.cpu.specs.State.{word, reset}
-use Rattle.cpu.specs.declared.state.Cpu.{Cpu}
+use Rattle.bus.specs.State.{word, reset}
+use Rattle.bus.specs.declared.state.Cpu.{Cpu}
 use Rattle.history.specs.Trace.{World, Cause, no-run, budget, stopped, Answer as AnswerOf, answers, Call, answer}
 use Rattle.history.specs.Ring.{Ring, ringOf, ring}
 use Rattle.machine.specs.Record.{recordOf, decoded}

@@ -6,10 +6,10 @@ use lib.Dec.{ltb, eqb}
 use lib.ListN.{length, set}
 use Rattle.word.specs.Word.{plusAt, joinAt, lowAt}
 use Rattle.word.specs.Bits.{bitAt, orAt}
-use Rattle.cpu.specs.State.{F, word, cpu, devices, reset}
+use Rattle.bus.specs.State.{F, word, cpu, devices, reset}
+use Rattle.bus.specs.declared.state.Cpu.{Cpu}
+use Rattle.bus.specs.declared.state.Devices.{Devices}
 use Rattle.cpu.specs.Step.{Step, stepOf}
-use Rattle.cpu.specs.declared.state.Cpu.{Cpu}
-use Rattle.cpu.specs.declared.state.Devices.{Devices}
 use Rattle.history.specs.Trace.{Box, Effect, Next, refuses, gives, Machine}
 
 pub data Input : Type 0 where

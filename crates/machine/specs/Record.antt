@@ -6,8 +6,8 @@ use mathlib.Core.Option.{Option, some, none}
 use lib.Dec.{leb, eqb}
 use Rattle.word.specs.Word.{joinAt, lowAt, highAt}
 use Rattle.word.specs.Bits.{bitAt}
-use Rattle.cpu.specs.State.{word, cpu, devices}
-use Rattle.cpu.specs.declared.state.Cpu.{Cpu}
+use Rattle.bus.specs.State.{word, cpu, devices}
+use Rattle.bus.specs.declared.state.Cpu.{Cpu}
 use Rattle.history.specs.Trace.{Undo}
 use Rattle.machine.specs.declared.record.Before.{Before}
 

@@ -5,7 +5,7 @@ use crate::state::Refusal;
 use crate::state::Reply;
 ghost use mathlib.Core.Path.{_≡_};
 ghost use Rattle.machine.specs.Calls.{firstOf, checked, firstRefusal, refuse};
-ghost use Rattle.cpu.specs.State.{word as wordIn};
+ghost use Rattle.bus.specs.State.{word as wordIn};
 
 fn rank(a: bool, b: bool, c: bool) -> u8
     ensures { λ r. ⌜ r ≡ firstOf a b c ⌝ }

@@ -5,10 +5,10 @@ use crate::state::Answer;
 use crate::state::Machine;
 use crate::state::Refusal;
 use crate::state::Reply;
-use cpu::state::Cpu;
-use cpu::state::Devices;
+use bus::state::Cpu;
+use bus::state::Devices;
 use history::Place;
-use isa::register::Reg;
+use isa::register::F;
 use word::bits;
 use word::choice;
 use word::halves;
@@ -21,8 +21,6 @@ ghost use Rattle.history.specs.Ring.{ringOf, ring, pushed, slots};
 ghost use Rattle.machine.specs.Record.{recordWith, recordOf, decoded};
 ghost use Rattle.machine.specs.Inputs.{Input, signalled, ticked as tickedOf, received as receivedOf, sentOff, registerSet, quietly, machine};
 ghost use Rattle.machine.specs.Calls.{Keeps, worldOf, replied};
-
-const F: usize = Reg::F.number as usize;
 
 // The record of an input, from the state before it.
 fn keep(m: Machine, journal: &mut [u16], count: u8, at: u16, old: u16) -> Place
@@ -204,5 +202,5 @@ pub fn reset(m: Machine, ram: &mut [u8], journal: &mut [u16]) -> Reply
     if n != 0 {
         return checks::failed(m, n);
     }
-    accept(m, cpu::state::reset(), journal)
+    accept(m, bus::state::reset(), journal)
 }

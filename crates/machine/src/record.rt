@@ -1,11 +1,11 @@
 // The journal record.
-use cpu::state::Cpu;
-use cpu::state::Devices;
+use bus::state::Cpu;
+use bus::state::Devices;
 use word::bits;
 use word::choice;
 use word::halves;
 ghost use mathlib.Core.Path.{_≡_};
-ghost use Rattle.cpu.specs.State.{cpu};
+ghost use Rattle.bus.specs.State.{cpu};
 ghost use Rattle.machine.specs.Record.{marks as marksOf, part, wordsOf, recordWith, undoFrom, sound, undoAs};
 
 // What a record keeps.

@@ -7,7 +7,7 @@ use crate::state::Refusal;
 use crate::state::Reply;
 use crate::state::Run;
 use crate::state::Stop;
-use cpu::state::Cpu;
+use bus::state::Cpu;
 use cpu::step;
 use history::Place;
 use isa::opcode;

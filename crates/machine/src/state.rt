@@ -1,5 +1,5 @@
 // The machine by value, and what a call answers.
-use cpu::state::Cpu;
+use bus::state::Cpu;
 ghost use mathlib.Core.Path.{_≡_};
 ghost use Rattle.machine.specs.Calls.{numberOf, started};
 
@@ -13,7 +13,7 @@ pub struct Machine {
 pub fn start() -> Machine
     ensures { λ r. ⌜ r ≡ started ⌝ }
 {
-    let cpu = cpu::state::reset();
+    let cpu = bus::state::reset();
     Machine {
         cpu,
         next: 0,

@@ -2,15 +2,13 @@
 mod digest;
 mod states;
 
-use cpu::state::Cpu;
+use bus::state::Cpu;
 use cpu::step;
 use isa::opcode;
-use isa::register::Reg;
+use isa::register::PC;
 use libc::STDIN_FILENO;
 ghost use mathlib.Core.Path.{_≡_};
 ghost use lib.ListN.{length};
-
-const PC: usize = Reg::PC.number as usize;
 
 // The `ensures` gives only the length, so that no proof writes the zeros out.
 fn room() -> [u8; 65536]

@@ -1,0 +1,63 @@
+-- "Addresses": RAM below its length, the device registers, and nothing else.
+use mathlib.Core.Bool.{false, cond}
+use mathlib.Core.List.{List}
+use Prim.Native.Nat.{ℕ, _+_}
+use lib.Dec.{ltb, eqb}
+use lib.ListN.{length, set}
+use Rattle.word.specs.Word.{plusAt, joinAt, lowAt, highAt}
+use Rattle.bus.specs.State.{word, devices}
+use Rattle.bus.specs.declared.state.Devices.{Devices}
+
+-- "0xffe0 TXD (reads 0), 0xffe1 RXD, 0xffe2 READY (R in bit 0, T in bit 1), 0xfff0/0xfff1 clock low/high. Anything else reads 0"
+unfoldable pub deviceByte : Devices → ℕ → ℕ
+deviceByte v a =
+    cond (eqb a 0xffe1) (v .rxd)
+    (cond (eqb a 0xffe2) (cond (v .r) 1 0 + cond (v .t) 2 0)
+    (cond (eqb a 0xfff0) (lowAt 8 (v .clock))
+    (cond (eqb a 0xfff1) (highAt 8 (v .clock))
+    0)))
+
+-- "Addresses below the RAM length are RAM."
+unfoldable pub byteAt : Devices → List ℕ → ℕ → ℕ
+byteAt v m a = cond (ltb a (length m)) (word m a) (deviceByte v a)
+
+-- "every address sum .. is taken modulo 65,536"
+abbrev pub after : ℕ → ℕ
+after a = plusAt 16 a 1
+
+-- "Low byte first; odd addresses are fine"
+unfoldable pub wordAt : Devices → List ℕ → ℕ → ℕ
+wordAt v m a = joinAt 8 (byteAt v m a) (byteAt v m (after a))
+
+-- "Writing RXD sets R=0 and keeps the byte."
+abbrev pub acknowledged : Devices → Devices
+acknowledged v = devices (v .clock) (v .rxd) (v .txd) false (v .t)
+
+-- "Writing TXD with T=1 stores the byte and sets T=0; with T=0 it is ignored"
+abbrev pub sending : Devices → ℕ → Devices
+sending v b = cond (v .t) (devices (v .clock) (v .rxd) b (v .r) false) v
+
+-- "writes to READY and the clock are ignored"; "Anything else .. ignores writes"
+unfoldable pub deviceAfter : Devices → ℕ → ℕ → Devices
+deviceAfter v a b = cond (eqb a 0xffe0) (sending v b) (cond (eqb a 0xffe1) (acknowledged v) v)
+
+-- what a write reaches
+pub record Bus : Type 0 where
+  pub devices : Devices
+  pub ram : List ℕ
+
+abbrev pub bus : Devices → List ℕ → Bus
+bus v m = record { devices = v; ram = m }
+
+unfoldable pub putByte : Bus → ℕ → ℕ → Bus
+putByte u a b =
+    cond (ltb a (length (u .ram))) (bus (u .devices) (set (u .ram) a b))
+    (bus (deviceAfter (u .devices) a b) (u .ram))
+
+-- "A word is written lower address first, then the next."
+unfoldable pub putWord : Bus → ℕ → ℕ → Bus
+putWord u a w = putByte (putByte u a (lowAt 8 w)) (after a) (highAt 8 w)
+
+-- what n bytes written from address a on write over: "old first byte + 256·old second (0 where not RAM or not written)"
+unfoldable pub oldBytes : List ℕ → ℕ → ℕ → ℕ
+oldBytes m n a = cond (eqb n 0) 0 (joinAt 8 (word m a) (cond (eqb n 2) (word m (after a)) 0))

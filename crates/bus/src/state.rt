@@ -1,0 +1,37 @@
+// The processor's state and the device registers.
+ghost use mathlib.Core.Path.{_≡_};
+ghost use Rattle.bus.specs.State.{reset as resetOf};
+
+// The clock's counter, the keyboard's registers and its ready bits.
+pub struct Devices {
+    pub clock: u16,
+    pub rxd: u8,
+    pub txd: u8,
+    pub r: bool,
+    pub t: bool,
+}
+
+pub struct Cpu {
+    pub regs: [u16; 16],
+    pub csrs: [u16; 6],
+    pub devices: Devices,
+    pub halted: bool,
+}
+
+// The state at the start and after a reset.
+pub fn reset() -> Cpu
+    ensures { λ r. ⌜ r ≡ resetOf ⌝ }
+{
+    Cpu {
+        regs: [0u16; 16],
+        csrs: [0u16; 6],
+        devices: Devices {
+            clock: 0,
+            rxd: 0,
+            txd: 0,
+            r: false,
+            t: true,
+        },
+        halted: false,
+    }
+}

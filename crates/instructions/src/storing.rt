@@ -1,0 +1,77 @@
+// Stores, with the bytes that they write over.
+use bus::address;
+use bus::state::Devices;
+use isa::opcode::StoreOp;
+use word::halves;
+use word::sums;
+ghost use mathlib.Core.Path.{_≡_};
+ghost use mathlib.Core.List.{List};
+ghost use Prim.Native.Nat.{ℕ, _≤_};
+ghost use Rattle.word.specs.Word.{lowAt, highAt};
+ghost use Rattle.bus.specs.State.{word as wordIn};
+ghost use Rattle.bus.specs.Addresses.{bus as busAt, putByte, putWord};
+ghost use Rattle.instructions.specs.Instructions.{stores, stored};
+ghost use Rattle.instructions.specs.Over.{overOf, overAs};
+
+// What a store leaves, beside the lent registers and bytes.
+pub struct Written {
+    pub devices: Devices,
+    pub count: u8,
+    pub first: u16,
+    pub old: u16,
+}
+
+fn old_byte(ram: &[u8], a: u16) -> u8
+    ensures { λ r. ⌜ r ≡ wordIn (now (ram .entry)) a ⌝ }
+{
+    let i = a as usize;
+    if i < ram.len() { ram[i] } else { 0 }
+}
+
+fn store_word(v: Devices, ram: &mut [u8], a: u16, w: u16) -> Written
+    ensures { λ q. ⌜ ((g : List ℕ) → overAs g q (now (ram .exit)) ≡ overOf (now (ram .entry)) (stores g (putWord (busAt v (now (ram .entry))) a w) 2 a)) ⌝ }
+    ensures few { λ q. ⌜ q .count ≤ 2 ⌝ }
+{
+    let old = halves::join(old_byte(ram, a), old_byte(ram, sums::plus(a, 1)));
+    let u = address::write_word(v, ram, a, w);
+    Written {
+        devices: u,
+        count: 2,
+        first: a,
+        old,
+    }
+}
+
+fn store_byte(v: Devices, ram: &mut [u8], a: u16, b: u8) -> Written
+    ensures { λ q. ⌜ ((g : List ℕ) → overAs g q (now (ram .exit)) ≡ overOf (now (ram .entry)) (stores g (putByte (busAt v (now (ram .entry))) a b) 1 a)) ⌝ }
+    ensures few { λ q. ⌜ q .count ≤ 2 ⌝ }
+{
+    let old = halves::join(old_byte(ram, a), 0);
+    let u = address::write_byte(v, ram, a, b);
+    Written {
+        devices: u,
+        count: 1,
+        first: a,
+        old,
+    }
+}
+
+pub fn store(regs: &mut [u16; 16], v: Devices, ram: &mut [u8], op: StoreOp, operands: u8) -> Written
+    ensures { λ q. ⌜ overAs (now (regs .exit)) q (now (ram .exit)) ≡ overOf (now (ram .entry)) (stored op (now (regs .entry)) v (now (ram .entry)) (highAt 4 operands) (lowAt 4 operands)) ⌝ }
+    ensures few { λ q. ⌜ q .count ≤ 2 ⌝ }
+{
+    let d = (operands / 16) as usize;
+    let s = (operands % 16) as usize;
+    let a = regs[d];
+    let w = regs[s];
+    match op {
+        StoreOp::Sto => store_word(v, ram, a, w),
+        StoreOp::Stob => store_byte(v, ram, a, halves::low(w)),
+        StoreOp::Ddsto => {
+            regs[d] = sums::minus(a, 2);
+            let lower = regs[d];
+            let x = regs[s];
+            store_word(v, ram, lower, x)
+        }
+    }
+}
