@@ -6,9 +6,10 @@ use Prim.Native.Nat.{ℕ, zero, suc, _+_, _^_, _≤_, _<_}
 use native.Mathlib.Omega.{arith}
 use lib.Dec.{ltb, eqb}
 use lib.ListN.{length, set, length-set, replicate}
+use Rattle.word.specs.Word.{above}
 use Rattle.word.proofs.Width.{low-below, high-below, join-below}
 use Rattle.bus.specs.State.{word, reset}
-use Rattle.bus.specs.Addresses.{after, deviceByte, byteAt, wordAt, deviceAfter, Bus, putByte, putWord}
+use Rattle.bus.specs.Addresses.{deviceByte, byteAt, wordAt, deviceAfter, Bus, putByte, putWord}
 use Rattle.bus.specs.Good.{Within, GoodRegs, GoodCsrs, GoodDevices, Good}
 use Rattle.bus.specs.declared.state.Devices.{Devices}
 
@@ -74,7 +75,7 @@ module _ {v : Devices} {m : List ℕ} (gv : GoodDevices v) (gm : Within 8 m) whe
 
   pub word-in : (a : ℕ) → wordAt v m a < 2 ^ 16
   unfolding wordAt
-  word-in a = join-below 8 8 (byte-in a) (byte-in (after a))
+  word-in a = join-below 8 8 (byte-in a) (byte-in (above a))
 
 pub record GoodBus (u : Bus) : Type 0 where
   pub devices : GoodDevices (u .devices)
@@ -95,7 +96,7 @@ byte-put {u} a r h =
 
 pub word-put : {u : Bus} (a : ℕ) {w : ℕ} → GoodBus u → w < 2 ^ 16 → GoodBus (putWord u a w)
 unfolding putWord
-word-put a {w} r h = byte-put (after a) (byte-put a r (low-below 8 w)) (high-below 8 8 h)
+word-put a {w} r h = byte-put (above a) (byte-put a r (low-below 8 w)) (high-below 8 8 h)
 
 -- the starting state is good
 pub reset-good : Good reset

@@ -7,8 +7,8 @@ use lib.Dec.{ltb}
 use lib.ListN.{length, set, length-set}
 use lib.Seq.{set-out}
 use borrow.Author.Tests.{ltb-false}
-use Rattle.word.specs.Word.{lowAt, highAt}
-use Rattle.bus.specs.Addresses.{after, Bus, putByte, putWord}
+use Rattle.word.specs.Word.{above, lowAt, highAt}
+use Rattle.bus.specs.Addresses.{Bus, putByte, putWord}
 use Rattle.bus.specs.Good.{Changed, none, one, two}
 
 -- a byte written is a byte of the list changed, if it is in RAM; past its end neither changes anything
@@ -20,14 +20,14 @@ byte-sets u a b = go (ltb a (length (u .ram))) refl
     go true e = simp e
     go false e = simp e (sym (set-out (u .ram) a b (ltb-false _ _ e)))
 
-pub word-sets : (u : Bus) (a w : ℕ) → putWord u a w .ram ≡ set (set (u .ram) a (lowAt 8 w)) (after a) (highAt 8 w)
+pub word-sets : (u : Bus) (a w : ℕ) → putWord u a w .ram ≡ set (set (u .ram) a (lowAt 8 w)) (above a) (highAt 8 w)
 unfolding putWord
 word-sets u a w =
-    byte-sets (putByte u a (lowAt 8 w)) (after a) (highAt 8 w)
-    ∙ ap (λ (l : List ℕ). set l (after a) (highAt 8 w)) (byte-sets u a (lowAt 8 w))
+    byte-sets (putByte u a (lowAt 8 w)) (above a) (highAt 8 w)
+    ∙ ap (λ (l : List ℕ). set l (above a) (highAt 8 w)) (byte-sets u a (lowAt 8 w))
 
 -- bytes written keep the length of memory
 pub kept-length : {m : List ℕ} {a n : ℕ} {m′ : List ℕ} → Changed m a n m′ → length m′ ≡ length m
 kept-length none = refl
 kept-length {m} (one a x) = length-set m a x
-kept-length {m} (two a x y) = length-set (set m a x) (after a) y ∙ length-set m a x
+kept-length {m} (two a x y) = length-set (set m a x) (above a) y ∙ length-set m a x

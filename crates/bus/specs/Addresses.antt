@@ -4,7 +4,7 @@ use mathlib.Core.List.{List}
 use Prim.Native.Nat.{ℕ, _+_}
 use lib.Dec.{ltb, eqb}
 use lib.ListN.{length, set}
-use Rattle.word.specs.Word.{plusAt, joinAt, lowAt, highAt}
+use Rattle.word.specs.Word.{above, joinAt, lowAt, highAt}
 use Rattle.bus.specs.State.{word, devices}
 use Rattle.bus.specs.declared.state.Devices.{Devices}
 
@@ -21,13 +21,9 @@ deviceByte v a =
 unfoldable pub byteAt : Devices → List ℕ → ℕ → ℕ
 byteAt v m a = cond (ltb a (length m)) (word m a) (deviceByte v a)
 
--- "every address sum .. is taken modulo 65,536"
-abbrev pub after : ℕ → ℕ
-after a = plusAt 16 a 1
-
 -- "Low byte first; odd addresses are fine"
 unfoldable pub wordAt : Devices → List ℕ → ℕ → ℕ
-wordAt v m a = joinAt 8 (byteAt v m a) (byteAt v m (after a))
+wordAt v m a = joinAt 8 (byteAt v m a) (byteAt v m (above a))
 
 -- "Writing RXD sets R=0 and keeps the byte."
 abbrev pub acknowledged : Devices → Devices
@@ -56,8 +52,8 @@ putByte u a b =
 
 -- "A word is written lower address first, then the next."
 unfoldable pub putWord : Bus → ℕ → ℕ → Bus
-putWord u a w = putByte (putByte u a (lowAt 8 w)) (after a) (highAt 8 w)
+putWord u a w = putByte (putByte u a (lowAt 8 w)) (above a) (highAt 8 w)
 
 -- what n bytes written from address a on write over: "old first byte + 256·old second (0 where not RAM or not written)"
 unfoldable pub oldBytes : List ℕ → ℕ → ℕ → ℕ
-oldBytes m n a = cond (eqb n 0) 0 (joinAt 8 (word m a) (cond (eqb n 2) (word m (after a)) 0))
+oldBytes m n a = cond (eqb n 0) 0 (joinAt 8 (word m a) (cond (eqb n 2) (word m (above a)) 0))

@@ -3,8 +3,8 @@ use mathlib.Core.Path.{_≡_}
 use mathlib.Core.List.{List}
 use Prim.Native.Nat.{ℕ, _≤_, _<_, _^_}
 use lib.ListN.{length, set}
+use Rattle.word.specs.Word.{above}
 use Rattle.bus.specs.State.{word}
-use Rattle.bus.specs.Addresses.{after}
 use Rattle.bus.specs.declared.state.Cpu.{Cpu}
 use Rattle.bus.specs.declared.state.Devices.{Devices}
 
@@ -35,4 +35,4 @@ pub record Good (c : Cpu) : Type 0 where
 pub data Changed (m : List ℕ) : ℕ → ℕ → List ℕ → Type 0 where
   none : Changed m 0 0 m
   one : (a x : ℕ) → Changed m a 1 (set m a x)
-  two : (a x y : ℕ) → Changed m a 2 (set (set m a x) (after a) y)
+  two : (a x y : ℕ) → Changed m a 2 (set (set m a x) (above a) y)

@@ -2,7 +2,7 @@
 use mathlib.Core.List.{List}
 use Prim.Native.Nat.{ℕ, _≤_}
 use native.Mathlib.Omega.{arith}
-use Rattle.word.specs.Word.{joinAt, lowAt, highAt}
+use Rattle.word.specs.Word.{above, joinAt, lowAt, highAt}
 use Rattle.word.proofs.Width.{low-below, plus-below}
 use Rattle.word.proofs.Digits.{below}
 use Rattle.isa.specs.Opcode.{meaning, reasonOf}
@@ -10,7 +10,7 @@ use Rattle.isa.specs.declared.opcode.Op.{Op}
 use Rattle.isa.specs.declared.opcode.Op.the-variants.{Illegal, Alu, Compare, Move, Load, Store}
 use Rattle.isa.proofs.Tables.{reason-small}
 use Rattle.bus.specs.State.{F, IA, PC, word}
-use Rattle.bus.specs.Addresses.{after, byteAt}
+use Rattle.bus.specs.Addresses.{byteAt}
 use Rattle.bus.specs.Good.{Within, GoodRegs, GoodCsrs, Good}
 use Rattle.bus.specs.declared.state.Cpu.{Cpu}
 use Rattle.bus.proofs.Kept.{picked, reg-set, csr0-set, byte-in}
@@ -72,4 +72,4 @@ step-good {c} {m} r gm =
     o = byteAt (c .devices) m (word (c .regs) PC)
 
     b : ℕ
-    b = byteAt (c .devices) m (after (word (c .regs) PC))
+    b = byteAt (c .devices) m (above (word (c .regs) PC))

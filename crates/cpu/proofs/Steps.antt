@@ -4,7 +4,7 @@ use mathlib.Core.Bool.{Bool, true, false}
 use mathlib.Core.List.{List}
 use Prim.Native.Nat.{ℕ, _+_, _<_}
 use lib.ListN.{getD, set}
-use Rattle.word.specs.Word.{plusAt, lowAt, highAt}
+use Rattle.word.specs.Word.{plusAt, above, lowAt, highAt}
 use Rattle.alu.specs.declared.AluOp.{AluOp}
 use Rattle.alu.specs.declared.CompareOp.{CompareOp}
 use Rattle.isa.specs.Table.{operationOf, TellsAll}
@@ -15,7 +15,7 @@ use Rattle.isa.specs.declared.opcode.StoreOp.{StoreOp}
 use Rattle.isa.specs.declared.opcode.Op.{Op}
 use Rattle.isa.specs.declared.opcode.Op.the-variants.{Illegal, Alu, Compare, Move, Load, Store}
 use Rattle.bus.specs.State.{F, PC, word, cpu}
-use Rattle.bus.specs.Addresses.{after, byteAt, oldBytes}
+use Rattle.bus.specs.Addresses.{byteAt, oldBytes}
 use Rattle.bus.specs.declared.state.Cpu.{Cpu}
 use Rattle.bus.specs.declared.state.Devices.{Devices}
 use Rattle.instructions.specs.Instructions.{computed, compared, Moved, both, moved, Loaded, loads, loaded, stored}
@@ -99,7 +99,7 @@ module _ (g k : List ℕ) (v : Devices) (h : Bool) (m table : List ℕ) where
   interrupts u g′ q a b e z = rw (z, e, sym a ∙ b)
 
   pub fetches : (o n b p : ℕ) (u : Bool) (op : Op) (x : Told) → u ≡ due (word g F) → u ≡ false
-      → o ≡ byteAt v m (word g PC) → n ≡ after (word g PC) → b ≡ byteAt v m n → p ≡ plusAt 16 (word g PC) 2
+      → o ≡ byteAt v m (word g PC) → n ≡ above (word g PC) → b ≡ byteAt v m n → p ≡ plusAt 16 (word g PC) 2
       → op ≡ operationOf (getD table o 0)
       → x ≡ toldOf m (executed op (cpu (set g PC p) k v h) m o (highAt 4 b) (lowAt 4 b)) → x ≡ stepped
   unfolding stepBy runs

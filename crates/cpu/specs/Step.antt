@@ -3,13 +3,13 @@ use mathlib.Core.Bool.{Bool, cond}
 use mathlib.Core.List.{List}
 use Prim.Native.Nat.{ℕ, _+_}
 use lib.ListN.{getD, set}
-use Rattle.word.specs.Word.{plusAt, lowAt, highAt}
+use Rattle.word.specs.Word.{plusAt, above, lowAt, highAt}
 use Rattle.isa.specs.Opcode.{meaning}
 use Rattle.isa.specs.Table.{operationOf}
 use Rattle.isa.specs.declared.opcode.Op.{Op}
 use Rattle.isa.specs.declared.opcode.Op.the-variants.{Illegal, Alu, Compare, Move, Load, Store}
 use Rattle.bus.specs.State.{F, PC, word, cpu}
-use Rattle.bus.specs.Addresses.{after, byteAt, oldBytes}
+use Rattle.bus.specs.Addresses.{byteAt, oldBytes}
 use Rattle.instructions.specs.Instructions.{computed, compared, Moved, moved, Loaded, loaded, Stored, stored}
 use Rattle.cpu.specs.Exceptions.{due, entered, illegal, settle}
 use Rattle.bus.specs.declared.state.Cpu.{Cpu}
@@ -66,7 +66,7 @@ runs what c m o b = executed (what o) (past c) m o (highAt 4 b) (lowAt 4 b)
 
 -- "two bytes are read at pc"
 abbrev pub fetched : (ℕ → Op) → Cpu → List ℕ → Step
-fetched what c m = runs what c m (byteAt (c .devices) m (word (c .regs) PC)) (byteAt (c .devices) m (after (word (c .regs) PC)))
+fetched what c m = runs what c m (byteAt (c .devices) m (word (c .regs) PC)) (byteAt (c .devices) m (above (word (c .regs) PC)))
 
 -- "ie becomes 0, ia and pc are exchanged, bus bytes 0. That is the whole step"
 abbrev pub interrupted : Cpu → List ℕ → Step

@@ -6,7 +6,8 @@ use native.Mathlib.Decide.{ℕ-discrete}
 use native.Mathlib.Omega.{arith}
 use lib.ListN.{length, getD, set, length-set}
 use lib.Seq.{ext-getD, getD-set-same, getD-set-other}
-use Rattle.history.specs.Undo.{above, restored, Touched}
+use Rattle.word.specs.Word.{above}
+use Rattle.history.specs.Undo.{restored, Touched}
 
 patch : (l m : List ℕ) (i k : ℕ) → k < length l → ((k ≡ i → ⊥) → getD l k 0 ≡ getD m k 0) → getD (set l i (getD m i 0)) k 0 ≡ getD m k 0
 patch l m i k h e = go (ℕ-discrete k i)

@@ -4,7 +4,8 @@ use mathlib.Core.Path.{_≡_}
 use mathlib.Core.List.{List, [], _∷_}
 use mathlib.Core.Option.{Option, some, none}
 use lib.ListN.{getD}
-use Rattle.history.specs.Undo.{above, restored}
+use Rattle.word.specs.Word.{above}
+use Rattle.history.specs.Undo.{restored}
 
 -- a machine with its memory
 pub record Box (C : Type 0) : Type 0 where

@@ -3,11 +3,7 @@ use Prim.Native.Nat.{ℕ, zero, suc, _<_}
 use mathlib.Core.Path.{_≡_}
 use mathlib.Core.List.{List}
 use lib.ListN.{length, getD, set}
-use Rattle.word.specs.Word.{plusAt}
-
--- "the second address is the first plus 1 modulo 65,536"
-abbrev pub above : ℕ → ℕ
-above a = plusAt 16 a 1
+use Rattle.word.specs.Word.{above}
 
 -- "of the one or two bytes that word 25 counts .., those in RAM": memory with the old bytes x and y back at the n addresses from a; `set` past
 -- the end changes nothing, so only RAM is written
