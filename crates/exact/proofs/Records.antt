@@ -14,7 +14,7 @@ use Rattle.word.proofs.Width.{low-join, high-join}
 use Rattle.bus.specs.State.{word}
 use Rattle.bus.specs.declared.state.Cpu.{Cpu}
 use Rattle.history.specs.Trace.{Undo}
-use Rattle.machine.specs.Record.{part, marks, recordWith, recordOf, undoFrom, sound, decoded}
+use Rattle.input.specs.Record.{part, marks, recordWith, recordOf, undoFrom, sound, decoded}
 
 pub record FineUndo (u : Undo Cpu) : Type 0 where
   pub regs16 : length (u .cpu .regs) ≡ 16

@@ -9,8 +9,8 @@ use Rattle.bus.proofs.Kept.{reset-good}
 use Rattle.history.specs.Trace.{Answer as AnswerOf, Call, give, run, back, Left, leaves, upTo, Played, play}
 use Rattle.history.specs.Ring.{Ring, ringOf, ring, slots}
 use Rattle.history.proofs.Exact.{AllApt, exact}
-use Rattle.machine.specs.Record.{recordOf, decoded}
-use Rattle.machine.specs.Inputs.{Input, step, box, machine}
+use Rattle.input.specs.Record.{recordOf, decoded}
+use Rattle.input.specs.Inputs.{Input, step, box, machine}
 use Rattle.machine.specs.Calls.{W, checkOf, worldOf, started}
 use Rattle.machine.specs.declared.state.Machine.{Machine as MachineT}
 use Rattle.exact.specs.Demand3.{Allowed, Made, answered, Typed, Chain, last, leftBy, Demand3}

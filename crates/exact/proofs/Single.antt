@@ -14,7 +14,7 @@ use Rattle.cpu.specs.Step.{Told, toldAs}
 use Rattle.cpu.specs.declared.step.Done.{Done}
 use Rattle.history.specs.Trace.{Answer as AnswerOf, Cause, no-run, budget, stopped, Call}
 use Rattle.history.specs.Ring.{Ring}
-use Rattle.machine.specs.Inputs.{Input}
+use Rattle.input.specs.Inputs.{Input}
 use Rattle.machine.specs.Calls.{W, answerOf, worldOf, saidBy}
 use Rattle.machine.specs.declared.state.Machine.{Machine as MachineT}
 use Rattle.machine.specs.declared.state.Stop.{Stop}

@@ -1,5 +1,5 @@
 -- Demand 3 for any machine that touches at most the bytes it says, and any journal that hands back its newest record.
-use Prim.Native.Nat.{ℕ, zero, suc, _-_, _<_}
+use Prim.Native.Nat.{ℕ, zero, suc, _<_}
 use mathlib.Core.Path.{_≡_, refl, _∙_, ap}
 use mathlib.Core.List.{List, [], _∷_}
 use mathlib.Core.Option.{some}
@@ -7,6 +7,7 @@ use native.Mathlib.Omega.{arith}
 use lib.ListN.{length, take}
 use Rattle.history.specs.Undo.{Touched}
 use Rattle.history.proofs.PutBack.{undone-none, undone-one, undone-two}
+use Rattle.history.proofs.Runs.{number-ran}
 use Rattle.history.specs.Trace.{Box, Effect, Next, refuses, gives, Machine, Undo, undoOf, undo, denies, hands, Store}
 use Rattle.history.specs.Trace.{Call, give, run, back, World, Left, took, tookTimes, rest, leaves, ruled, trail}
 use Rattle.history.specs.Trace.{backNumber, W, after, gave, stepped, ran, plain, Played, one, play, fresh, Exactly}
@@ -154,14 +155,6 @@ module _ (M : Machine) (Fine : Undo (M .C) → Type 0) (L : Ruly M Fine) (s : Bo
       right-ran zero w l r = r
       right-ran (suc n) w l r = right-stepped n (right-ran n) w l (M .next (M .step) (w .box)) refl r
 
-      number-ran : (n : ℕ) (w : W M K) → ran M K n w .number ≡ 0
-      number-ran zero w = refl
-      number-ran (suc n) w = go (M .next (M .step) (w .box))
-        where
-          go : (x : Next (M .C)) → stepped M K (ran M K n) w x .number ≡ 0
-          go (refuses m) = refl
-          go (gives e) = refl
-
       back-number : {w : W M K} {l : Left (M .I)} → Right w l → plain M K back w .number ≡ backNumber (l .held)
       back-number {w} {l} r = go (r .us) (r .kept) (r .size)
         where
@@ -183,7 +176,7 @@ module _ (M : Machine) (Fine : Undo (M .C) → Type 0) (L : Ruly M Fine) (s : Bo
 
       right-one : (c : Call (M .I)) (p : Played M K check) → Apt M Fine L c → Right (p .world) (p .left) → Right (one M K check grow c p .world) (one M K check grow c p .left)
       right-one (give i) p f r = rw (passed r) (right-gave (p .world) (p .left) i (M .next i (p .world .box)) f refl r)
-      right-one (run n) p f r = rw (passed r, number-ran) (right-ran n (p .world) (p .left) r)
+      right-one (run n) p f r = rw (passed r, number-ran M K n (p .world)) (right-ran n (p .world) (p .left) r)
       right-one back p f r = rw (passed r) (right-back (p .world) (p .left) r)
 
       right-play :

@@ -51,7 +51,7 @@ back-none n a x y m e = rw e
 pub back-one : (n a x y : ℕ) (m : List ℕ) → n ≡ 1 → restored n a x y m ≡ set m a x
 back-one n a x y m e = rw e
 
-pub back-two : (n a x y : ℕ) (m : List ℕ) → 1 < n → restored n a x y m ≡ set (set m a x) (above a) y
-back-two zero a x y m h = absurd (omega arith)
-back-two (suc zero) a x y m h = absurd (omega arith)
-back-two (suc (suc n)) a x y m h = refl
+pub back-two : (n a x y : ℕ) (m : List ℕ) → (n ≡ 0 → ⊥) → (n ≡ 1 → ⊥) → restored n a x y m ≡ set (set m a x) (above a) y
+back-two zero a x y m none one = absurd (none refl)
+back-two (suc zero) a x y m none one = absurd (one refl)
+back-two (suc (suc n)) a x y m none one = refl

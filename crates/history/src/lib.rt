@@ -1,4 +1,6 @@
 // The journal: a ring of slots of 32 words in lent words. What a record says is not known here.
+pub mod undo;
+
 ghost use mathlib.Core.Path.{_≡_};
 ghost use Prim.Native.Nat.{_+_, _*_, _/_, _≤_, _<_};
 ghost use lib.ListN.{length};

@@ -1,13 +1,13 @@
 -- From what the parts of a call leave to what the call answers.
 use Prim.Native.Nat.{ℕ, zero, suc, _-_, _/_, _≤_, _<_}
 use mathlib.Core.Path.{_≡_, refl, sym, _∙_, ap}
-use mathlib.Core.Bool.{Bool, true, false, cond, _&&_, _||_}
+use mathlib.Core.Bool.{Bool, true, false, _&&_, _||_}
 use mathlib.Core.List.{List}
 use mathlib.Core.Option.{Option, some, none}
 use mathlib.Core.Logic.{_⊎_, inl, inr, ⊎-elim}
 use native.Mathlib.Omega.{arith}
 use native.Mathlib.Nat.{add-zero}
-use borrow.Author.Tests.{lt-ltb, le-ltb, leb-true, ltb-true, eqb-true}
+use borrow.Author.Tests.{lt-ltb, leb-true, ltb-true, eqb-true}
 use lib.Dec.{leb, ltb, eqb}
 use lib.ListN.{length, set}
 use Rattle.word.specs.Word.{joinAt}
@@ -17,14 +17,16 @@ use Rattle.history.specs.Undo.{restored}
 use Rattle.history.specs.Trace.{Box, Effect, Next, refuses, gives, Undo, no-run, Answer as AnswerOf, answers, refusal, Call, give, back, gave, backed, guarded, plain, ran, after}
 use Rattle.history.specs.Ring.{Ring, ringOf, slotBefore, slotWords, pushed, popped, poppedAt, slots, ring, readable}
 use Rattle.history.proofs.Copying.{before-below}
-use Rattle.machine.specs.Record.{recordWith, recordOf, undoFrom, sound, decoded, undoAs}
-use Rattle.machine.specs.Inputs.{Input, step, tick, receive, sent, setRegister, poke, box, quietly, ticked, received, sentOff, registerSet, nextOf, stepsOf, machine}
-use Rattle.machine.specs.Calls.{W, ramFits, journalFits, stateFits, firstOf, checked, checkOf, answerOf, worldOf, numberOf, firstRefusal, replied, refuse, standing, ranAs}
+use Rattle.input.specs.Record.{recordWith, recordOf, undoFrom, sound, decoded, undoAs}
+use Rattle.input.specs.Inputs.{Input, step, poke, box, effect, quietly, nextOf, stepsOf, machine}
+use Rattle.input.specs.declared.record.Before.{Before}
+use Rattle.input.proofs.Giving.{pokes}
+use Rattle.machine.specs.Calls.{W, ramFits, journalFits, stateFits, firstOf, checked, checkOf, answerOf, worldOf, numberOf, firstRefusal, replied}
+use Rattle.machine.specs.Lent.{refuse, standing, ranAs}
 use Rattle.machine.specs.declared.state.Machine.{Machine as MachineT}
 use Rattle.machine.specs.declared.state.Refusal.{Refusal}
 use Rattle.machine.specs.declared.state.Refusal.the-variants as Refusal
 use Rattle.machine.specs.declared.state.Reply.{Reply}
-use Rattle.machine.specs.declared.record.Before.{Before}
 use Rattle.machine.specs.declared.running.Ended.{Ended}
 
 abbrev pub at : Box Cpu → Ring → W
@@ -82,10 +84,9 @@ module _ (m : MachineT) (ram ws : List ℕ) (n : ℕ) (e : n ≡ checkOf (worldO
     pub poked : (a x old : ℕ) (ws′ : List ℕ) (next held : ℕ) → a < length ram → old ≡ joinAt 8 (word ram a) 0
         → ringOf ws′ next held ≡ pushed (slots ws) (recordWith (m .cpu) 1 a old) (ringOf ws (m .next) (m .held))
         → answerOf (give (poke a x)) w ≡ answers 0 0 0 no-run (at (box (m .cpu) (set ram a x)) (ringOf ws′ next held))
-    unfolding nextOf
     poked a x old ws′ next held l o j =
-        given (poke a x) (nextOf (poke a x) (box (m .cpu) ram)) refl
-        ∙ rw (lt-ltb a (length ram) l) (ap (λ (y : Ring). answers 0 0 0 no-run (at (box (m .cpu) (set ram a x)) y)) (sym (rw o at j)))
+        given (poke a x) (gives (effect (m .cpu) (set ram a x) 1 a 0)) (pokes (box (m .cpu) ram) a x l)
+        ∙ ap (λ (y : Ring). answers 0 0 0 no-run (at (box (m .cpu) (set ram a x)) y)) (sym (rw o at j))
 
     pub ran-as : (k : ℕ) (r : Ended) (ram′ ws′ : List ℕ) → ran machine (ring recordOf decoded) k w ≡ ranAs r ram′ ws′ → answerOf (Call.run k) w ≡ ranAs r ram′ ws′
     ran-as k r ram′ ws′ s = passes (Call.run k) ∙ s
@@ -95,41 +96,6 @@ pub accepted : (m : MachineT) (c : Cpu) (ws ws′ : List ℕ) (next held : ℕ)
     → ringOf ws′ next held ≡ pushed (slots ws) (recordWith (m .cpu) 0 0 0) (ringOf ws (m .next) (m .held))
     → (ram : List ℕ) → gives-by (worldOf m ram ws) 0 (quietly c ram) ≡ answers 0 0 0 no-run (at (box c ram) (ringOf ws′ next held))
 accepted m c ws ws′ next held e ram = ap (λ (j : Ring). answers 0 0 0 no-run (at (box c ram) j)) (sym e)
-
--- what the rules give for each input
-module _ (b : Box Cpu) (c : Cpu) where
-  pub ticks : c ≡ ticked (b .cpu) → nextOf tick b ≡ quietly c (b .ram)
-  unfolding nextOf
-  ticks e = rw e
-
-  pub receives : (x : ℕ) → b .cpu .devices .r ≡ false → c ≡ received x (b .cpu) → nextOf (receive x) b ≡ quietly c (b .ram)
-  unfolding nextOf
-  receives x h e = ap (λ (t : Bool). cond t (refuses 5) (quietly (received x (b .cpu)) (b .ram))) h ∙ ap (λ (y : Cpu). quietly y (b .ram)) (sym e)
-
-  pub sends : b .cpu .devices .t ≡ false → c ≡ sentOff (b .cpu) → nextOf sent b ≡ quietly c (b .ram)
-  unfolding nextOf
-  sends h e = ap (λ (t : Bool). cond t (refuses 5) (quietly (sentOff (b .cpu)) (b .ram))) h ∙ ap (λ (y : Cpu). quietly y (b .ram)) (sym e)
-
-  pub sets : (i x : ℕ) → i < 16 → c ≡ registerSet i x (b .cpu) → nextOf (setRegister i x) b ≡ quietly c (b .ram)
-  unfolding nextOf
-  sets i x h e = rw (lt-ltb i 16 h, e)
-
-module _ (b : Box Cpu) where
-  pub receives-not : (x : ℕ) → b .cpu .devices .r ≡ true → nextOf (receive x) b ≡ refuses 5
-  unfolding nextOf
-  receives-not x h = rw h
-
-  pub sends-not : b .cpu .devices .t ≡ true → nextOf sent b ≡ refuses 5
-  unfolding nextOf
-  sends-not h = rw h
-
-  pub sets-not : (i x : ℕ) → 16 ≤ i → nextOf (setRegister i x) b ≡ refuses 6
-  unfolding nextOf
-  sets-not i x h = rw (le-ltb i 16 h)
-
-  pub pokes-not : (a x : ℕ) → length (b .ram) ≤ a → nextOf (poke a x) b ≡ refuses 7
-  unfolding nextOf
-  pokes-not a x h = rw (le-ltb a (length (b .ram)) h)
 
 -- what the checks say of the journal's counts, where they pass
 clash : {A : Type 0} → false ≡ true → A
@@ -218,6 +184,3 @@ pub alone : (m : MachineT) (ram ws : List ℕ) (r : Ended) (ram′ ws′ : List 
 alone m ram ws r ram′ ws′ x q s =
     let t = rw q at s in
     rw q (ap (λ (b : ℕ). answers 0 1 b no-run (after machine (ring recordOf decoded) (worldOf m ram ws) x)) (sym (add-zero (x .bus))) ∙ ap (λ (a : AnswerOf Cpu Ring). answers 0 1 (a .bus) no-run (a .world)) t)
-
-pub two-more : (n : ℕ) → (n ≡ 0 → ⊥) → (n ≡ 1 → ⊥) → 1 < n
-two-more n a b = omega arith

@@ -1,40 +1,25 @@
 -- One turn of a run: a step, its record, and what is left of the run.
 use Prim.Native.Nat.{ℕ, _+_, _-_, _*_, _≤_, _<_}
-use mathlib.Core.Path.{_≡_, refl, sym, _∙_, ap}
+use mathlib.Core.Path.{_≡_, sym, _∙_, ap}
 use mathlib.Core.Bool.{Bool, true, false}
 use mathlib.Core.List.{List}
 use native.Mathlib.Omega.{arith}
 use Rattle.bus.specs.State.{cpu}
 use Rattle.bus.specs.Addresses.{oldBytes}
-use Rattle.bus.specs.Good.{Changed, none, one, two}
 use Rattle.bus.specs.declared.state.Cpu.{Cpu}
 use Rattle.bus.specs.declared.state.Devices.{Devices}
 use Rattle.cpu.specs.Step.{Step, tells, stepOf, Told, toldOf, toldAs}
 use Rattle.cpu.specs.declared.step.Done.{Done}
 use Rattle.cpu.proofs.Touched.{step-changes}
 use Rattle.isa.specs.Opcode.{meaning}
-use Rattle.history.specs.Trace.{Box, refuses, gives, undoOf, Answer as AnswerOf, answers, stopped, budget as spent, ran, after}
+use Rattle.history.specs.Trace.{undoOf, Answer as AnswerOf, answers, stopped, budget as spent, ran, after}
 use Rattle.history.specs.Ring.{Ring, ringOf, pushed, slots, ring}
 use Rattle.history.proofs.Runs.{plus, ran-start, ran-more, ran-stopped, ran-done}
-use Rattle.machine.specs.Record.{recordWith, recordOf, decoded}
-use Rattle.machine.specs.Inputs.{step, box, stepped, nextOf, machine}
+use Rattle.input.specs.Record.{recordWith, recordOf, decoded}
+use Rattle.input.specs.Inputs.{box, stepped, machine}
+use Rattle.input.proofs.Giving.{recorded, step-goes, step-stops}
 use Rattle.machine.specs.Calls.{W}
 use Rattle.machine.proofs.Answering.{at}
-
--- the record of a step, from what the step tells
-recorded : (c : Cpu) (m : List ℕ) {a n : ℕ} {m′ : List ℕ} → Changed m a n m′ → recordWith c n a (oldBytes m n a) ≡ recordOf (undoOf (box c m) n a)
-unfolding oldBytes
-recorded c m none = refl
-recorded c m (one a x) = refl
-recorded c m (two a x y) = refl
-
-pub step-goes : (b : Box Cpu) → b .cpu .halted ≡ false → nextOf step b ≡ gives (stepped (stepOf (b .cpu) (b .ram)))
-unfolding nextOf
-step-goes b h = rw h
-
-pub step-stops : (b : Box Cpu) → b .cpu .halted ≡ true → nextOf step b ≡ refuses 4
-unfolding nextOf
-step-stops b h = rw h
 
 -- registers, CSRs, devices, halted mark, memory, journal words, next slot and records held
 abbrev pub world : List ℕ → List ℕ → Devices → Bool → List ℕ → List ℕ → ℕ → ℕ → W

@@ -9,8 +9,8 @@ use Rattle.bus.specs.State.{word, reset}
 use Rattle.bus.specs.declared.state.Cpu.{Cpu}
 use Rattle.history.specs.Trace.{World, Cause, no-run, budget, stopped, Answer as AnswerOf, answers, Call, answer}
 use Rattle.history.specs.Ring.{Ring, ringOf, ring}
-use Rattle.machine.specs.Record.{recordOf, decoded}
-use Rattle.machine.specs.Inputs.{Input, box, machine}
+use Rattle.input.specs.Record.{recordOf, decoded}
+use Rattle.input.specs.Inputs.{Input, box, machine}
 use Rattle.machine.specs.declared.state.Machine.{Machine as MachineT}
 use Rattle.machine.specs.declared.state.Stop.{Stop}
 use Rattle.machine.specs.declared.state.Stop.the-variants.{Halted, Budget}
@@ -18,10 +18,7 @@ use Rattle.machine.specs.declared.state.Refusal.{Refusal}
 use Rattle.machine.specs.declared.state.Refusal.the-variants as Refusal
 use Rattle.machine.specs.declared.state.Answer.{Answer}
 use Rattle.machine.specs.declared.state.Answer.the-variants.{Accepted, Stepped, Ran, Refused}
-use Rattle.machine.specs.declared.state.Run.{Run}
 use Rattle.machine.specs.declared.state.Reply.{Reply}
-use Rattle.history.specs.declared.Place.{Place}
-use Rattle.machine.specs.declared.running.Ended.{Ended}
 
 abbrev pub W : Type 0
 W = World Cpu Ring
@@ -93,24 +90,3 @@ Keeps c m ram ws r ram′ ws′ = answerOf c (worldOf m ram ws) ≡ replied r ra
 -- "The starting state is this one with next slot and records held 0."
 abbrev pub started : MachineT
 started = record { cpu = reset; next = 0; held = 0 }
-
--- a refusal as the code has it
-abbrev pub refuse : MachineT → Refusal → Reply
-refuse m why = record { answer = Refused why; machine = m }
-
--- state, next slot and records held, RAM and journal words
-abbrev pub standing : Cpu → Place → List ℕ → List ℕ → W
-standing c p ram ws = record { box = box c ram; journal = ringOf ws (p .next) (p .held) }
-
-abbrev pub machineAt : Cpu → Place → MachineT
-machineAt c p = record { cpu = c; next = p .next; held = p .held }
-
-abbrev pub placeIn : MachineT → Place
-placeIn m = record { next = m .next; held = m .held }
-
--- a run as the code has it
-abbrev pub runTold : ℕ → ℕ → Stop → Run
-runTold s b t = record { steps = s; bus = b; stop = t }
-
-abbrev pub ranAs : Ended → List ℕ → List ℕ → AnswerOf Cpu Ring
-ranAs r ram ws = answers 0 (r .run .steps) (r .run .bus) (causeIs (r .run .stop)) (standing (r .cpu) (r .place) ram ws)

@@ -1,3 +1,2 @@
-pub mod Record
-pub mod Inputs
 pub mod Calls
+pub mod Lent

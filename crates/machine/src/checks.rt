@@ -4,7 +4,8 @@ use crate::state::Machine;
 use crate::state::Refusal;
 use crate::state::Reply;
 ghost use mathlib.Core.Path.{_≡_};
-ghost use Rattle.machine.specs.Calls.{firstOf, checked, firstRefusal, refuse};
+ghost use Rattle.machine.specs.Calls.{firstOf, checked, firstRefusal};
+ghost use Rattle.machine.specs.Lent.{refuse};
 ghost use Rattle.bus.specs.State.{word as wordIn};
 
 fn rank(a: bool, b: bool, c: bool) -> u8

@@ -1,25 +1,21 @@
 // The inputs but the step.
 use crate::checks;
-use crate::record;
 use crate::state::Answer;
 use crate::state::Machine;
 use crate::state::Refusal;
 use crate::state::Reply;
 use bus::state::Cpu;
-use bus::state::Devices;
 use history::Place;
-use isa::register::F;
-use word::bits;
-use word::choice;
+use input::effects;
+use input::record;
 use word::halves;
-use word::sums;
 ghost use mathlib.Core.Path.{_≡_};
 ghost use mathlib.Core.List.{List};
-ghost use Prim.Native.Nat.{ℕ, _<_};
+ghost use Prim.Native.Nat.{ℕ};
 ghost use Rattle.history.specs.Trace.{give, gave};
 ghost use Rattle.history.specs.Ring.{ringOf, ring, pushed, slots};
-ghost use Rattle.machine.specs.Record.{recordWith, recordOf, decoded};
-ghost use Rattle.machine.specs.Inputs.{Input, signalled, ticked as tickedOf, received as receivedOf, sentOff, registerSet, quietly, machine};
+ghost use Rattle.input.specs.Record.{recordWith, recordOf, decoded};
+ghost use Rattle.input.specs.Inputs.{Input, quietly, machine};
 ghost use Rattle.machine.specs.Calls.{Keeps, worldOf, replied};
 
 // The record of an input, from the state before it.
@@ -56,30 +52,6 @@ fn accept(m: Machine, c: Cpu, journal: &mut [u16]) -> Reply
     }
 }
 
-// A device sets a bit of f, and H.
-fn signal(c: Cpu, flag: u16, v: Devices) -> Cpu
-    ensures { λ r. ⌜ r ≡ signalled flag v c ⌝ }
-{
-    let mut regs = c.regs;
-    let mut csrs = c.csrs;
-    regs[F] = bits::or(regs[F], flag);
-    csrs[0] = halves::join(halves::low(csrs[0]), 1);
-    Cpu {
-        regs,
-        csrs,
-        devices: v,
-        halted: c.halted,
-    }
-}
-
-fn ticked(c: Cpu) -> Cpu
-    ensures { λ r. ⌜ r ≡ tickedOf c ⌝ }
-{
-    let mut v = c.devices;
-    v.clock = sums::plus(v.clock, 1);
-    signal(c, 0x0400, v)
-}
-
 pub fn tick(m: Machine, ram: &mut [u8], journal: &mut [u16]) -> Reply
     ensures { λ r. ⌜ Keeps (give Input.tick) m (now (ram .entry)) (now (journal .entry)) r (now (ram .exit)) (now (journal .exit)) ⌝ }
 {
@@ -87,16 +59,7 @@ pub fn tick(m: Machine, ram: &mut [u8], journal: &mut [u16]) -> Reply
     if n != 0 {
         return checks::failed(m, n);
     }
-    accept(m, ticked(m.cpu), journal)
-}
-
-fn received(c: Cpu, b: u8) -> Cpu
-    ensures { λ r. ⌜ r ≡ receivedOf b c ⌝ }
-{
-    let mut v = c.devices;
-    v.rxd = b;
-    v.r = true;
-    signal(c, 0x0800, v)
+    accept(m, effects::ticked(m.cpu), journal)
 }
 
 pub fn receive(m: Machine, ram: &mut [u8], journal: &mut [u16], b: u8) -> Reply
@@ -109,15 +72,7 @@ pub fn receive(m: Machine, ram: &mut [u8], journal: &mut [u16], b: u8) -> Reply
     if m.cpu.devices.r {
         return checks::refused(m, Refusal::NotReady);
     }
-    accept(m, received(m.cpu, b), journal)
-}
-
-fn sent_off(c: Cpu) -> Cpu
-    ensures { λ r. ⌜ r ≡ sentOff c ⌝ }
-{
-    let mut v = c.devices;
-    v.t = true;
-    signal(c, 0x0800, v)
+    accept(m, effects::received(m.cpu, b), journal)
 }
 
 pub fn sent(m: Machine, ram: &mut [u8], journal: &mut [u16]) -> Reply
@@ -130,25 +85,7 @@ pub fn sent(m: Machine, ram: &mut [u8], journal: &mut [u16]) -> Reply
     if m.cpu.devices.t {
         return checks::refused(m, Refusal::NotReady);
     }
-    accept(m, sent_off(m.cpu), journal)
-}
-
-fn register_set(c: Cpu, number: usize, content: u16) -> Cpu
-    requires { ⌜ number < 16 ⌝ }
-    ensures { λ r. ⌜ r ≡ registerSet number content c ⌝ }
-{
-    let mut regs = c.regs;
-    regs[number] = content;
-    let csrs = c.csrs;
-    let devices = c.devices;
-    let revived = choice::both(number == F, !bits::bit(content, 9));
-    let halted = choice::pick_bool(revived, false, c.halted);
-    Cpu {
-        regs,
-        csrs,
-        devices,
-        halted,
-    }
+    accept(m, effects::sent_off(m.cpu), journal)
 }
 
 pub fn set_register(
@@ -165,7 +102,11 @@ pub fn set_register(
         return checks::failed(m, n);
     }
     if number < 16 {
-        return accept(m, register_set(m.cpu, number as usize, content), journal);
+        return accept(
+            m,
+            effects::register_set(m.cpu, number as usize, content),
+            journal,
+        );
     }
     checks::refused(m, Refusal::NoRegister)
 }
@@ -202,5 +143,6 @@ pub fn reset(m: Machine, ram: &mut [u8], journal: &mut [u16]) -> Reply
     if n != 0 {
         return checks::failed(m, n);
     }
-    accept(m, bus::state::reset(), journal)
+    let fresh = bus::state::reset();
+    accept(m, fresh, journal)
 }

@@ -2,6 +2,5 @@
 pub mod back;
 mod checks;
 pub mod inputs;
-mod record;
 pub mod running;
 pub mod state;

@@ -1,6 +1,5 @@
 // The run, and the lone step.
 use crate::checks;
-use crate::record;
 use crate::state::Answer;
 use crate::state::Machine;
 use crate::state::Refusal;
@@ -10,13 +9,15 @@ use crate::state::Stop;
 use bus::state::Cpu;
 use cpu::step;
 use history::Place;
+use input::record;
 use isa::opcode;
 ghost use mathlib.Core.Path.{_≡_};
 ghost use Rattle.history.specs.Trace.{Call, give, ran};
 ghost use Rattle.history.specs.Ring.{ring};
-ghost use Rattle.machine.specs.Record.{recordOf, decoded};
-ghost use Rattle.machine.specs.Inputs.{Input, machine};
-ghost use Rattle.machine.specs.Calls.{Keeps, standing, runTold, ranAs, machineAt, placeIn};
+ghost use Rattle.input.specs.Record.{recordOf, decoded};
+ghost use Rattle.input.specs.Inputs.{Input, machine};
+ghost use Rattle.machine.specs.Calls.{Keeps};
+ghost use Rattle.machine.specs.Lent.{standing, runTold, ranAs, machineAt, placeIn};
 
 // What a run leaves.
 struct Ended {

@@ -1,9 +1,8 @@
-use Rattle.machine.proofs.Answering.{fails, taken, passes}
-use denote.Ref.{now}
 use mathlib.Core.Path.{_∙_}
-use Rattle.history.specs.Trace.{back}
-use Rattle.machine.proofs.Answering.{none-held, restores, unsound, newest-in, sits}
 use native.Mathlib.Omega.{arith}
+use denote.Ref.{now}
+use Rattle.history.specs.Trace.{back}
+use Rattle.machine.proofs.Answering.{fails, passes, none-held, restores, unsound, newest-in, sits}
 use borrow.Author.Needs.{needs}
 use Rattle.machine.proofs.back.step_back.Statement.{statement}
 use Rattle.machine.proofs.back.step_back.Tie as tie

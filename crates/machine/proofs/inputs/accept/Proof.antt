@@ -1,5 +1,5 @@
-use Rattle.machine.proofs.Answering.{accepted}
 use denote.Ref.{now}
+use Rattle.machine.proofs.Answering.{accepted}
 use borrow.Author.Needs.{needs}
 use Rattle.machine.proofs.inputs.accept.Statement.{statement}
 use Rattle.machine.proofs.inputs.accept.Tie as tie

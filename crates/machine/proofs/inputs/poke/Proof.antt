@@ -1,9 +1,9 @@
-use Rattle.machine.specs.declared.state.Refusal.the-variants as Refusal
-use Rattle.machine.proofs.Answering.{fails, denied, taken, poked}
 use denote.Ref.{now}
-use Rattle.machine.specs.Inputs.{box, poke}
 use Rattle.history.specs.Trace.{give}
-use Rattle.machine.proofs.Answering.{pokes-not}
+use Rattle.input.specs.Inputs.{box, poke}
+use Rattle.input.proofs.Giving.{pokes-not}
+use Rattle.machine.specs.declared.state.Refusal.the-variants as Refusal
+use Rattle.machine.proofs.Answering.{fails, denied, poked}
 use borrow.Author.Needs.{needs}
 use Rattle.machine.proofs.inputs.poke.Statement.{statement}
 use Rattle.machine.proofs.inputs.poke.Tie as tie

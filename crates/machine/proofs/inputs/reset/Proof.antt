@@ -1,9 +1,9 @@
-use Rattle.machine.proofs.Answering.{fails, taken}
-use denote.Ref.{now}
 use mathlib.Core.Path.{refl}
-use Rattle.machine.specs.Inputs.{resets}
+use denote.Ref.{now}
 use Rattle.history.specs.Trace.{give}
-use Rattle.machine.specs.Inputs.{nextOf}
+use Rattle.input.specs.Inputs.{box, resets}
+use Rattle.input.proofs.Giving.{starts}
+use Rattle.machine.proofs.Answering.{fails, taken}
 use borrow.Author.Needs.{needs}
 use Rattle.machine.proofs.inputs.reset.Statement.{statement}
 use Rattle.machine.proofs.inputs.reset.Tie as tie
@@ -27,8 +27,7 @@ same-length : tie.Need-same-length
 same-length c = search needs
 
 returns-2 : tie.Need-returns-2
-unfolding nextOf
-returns-2 c = taken (c .before .before .before .before .before .before .before .before .before .args .m) (now (c .before .before .before .before .before .before .before .before .before .args .ram)) (now (c .before .before .before .before .before .before .before .before .before .args .journal)) _ (c .before .before .before .before .before .before .check-of .ensures) (c .before .before .before .before .before .if1 .left) resets _ _ refl (rw (c .before .before .before .before .reset .ensures)) (c .before .before .accept .ensures)
+returns-2 c = taken (c .before .before .before .before .before .before .before .before .before .args .m) (now (c .before .before .before .before .before .before .before .before .before .args .ram)) (now (c .before .before .before .before .before .before .before .before .before .args .journal)) _ (c .before .before .before .before .before .before .check-of .ensures) (c .before .before .before .before .before .if1 .left) resets _ _ refl (starts (box (c .before .before .before .before .before .before .before .before .before .args .m .cpu) (now (c .before .before .before .before .before .before .before .before .before .args .ram))) _ (c .before .before .before .before .reset .ensures)) (c .before .before .accept .ensures)
 
 pub reset-spec : {M : Type 1} → statement M
 reset-spec =

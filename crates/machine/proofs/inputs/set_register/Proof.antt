@@ -1,10 +1,10 @@
+use mathlib.Core.Path.{refl}
+use denote.Ref.{now}
+use Rattle.history.specs.Trace.{give}
+use Rattle.input.specs.Inputs.{box, setRegister}
+use Rattle.input.proofs.Giving.{sets, sets-not}
 use Rattle.machine.specs.declared.state.Refusal.the-variants as Refusal
 use Rattle.machine.proofs.Answering.{fails, denied, taken}
-use denote.Ref.{now}
-use mathlib.Core.Path.{refl}
-use Rattle.machine.specs.Inputs.{box, setRegister}
-use Rattle.history.specs.Trace.{give}
-use Rattle.machine.proofs.Answering.{sets, sets-not}
 use borrow.Author.Needs.{needs}
 use Rattle.machine.proofs.inputs.set_register.Statement.{statement}
 use Rattle.machine.proofs.inputs.set_register.Tie as tie

@@ -1,9 +1,9 @@
-use Rattle.machine.proofs.Answering.{fails, taken}
-use denote.Ref.{now}
 use mathlib.Core.Path.{refl}
-use Rattle.machine.specs.Inputs.{box, tick}
+use denote.Ref.{now}
 use Rattle.history.specs.Trace.{give}
-use Rattle.machine.proofs.Answering.{ticks}
+use Rattle.input.specs.Inputs.{box, tick}
+use Rattle.input.proofs.Giving.{ticks}
+use Rattle.machine.proofs.Answering.{fails, taken}
 use borrow.Author.Needs.{needs}
 use Rattle.machine.proofs.inputs.tick.Statement.{statement}
 use Rattle.machine.proofs.inputs.tick.Tie as tie

@@ -2,8 +2,8 @@ use Prim.Native.Nat.{_-_}
 use mathlib.Core.Path.{_≡_, refl, _∙_}
 use native.Mathlib.Omega.{arith}
 use lib.ListN.{length}
-use borrow.Author.Needs.{needs}
 use Rattle.machine.proofs.Turns.{world, runs, Going, begin, turn, halts, ends}
+use borrow.Author.Needs.{needs}
 use Rattle.machine.proofs.running.advance.Statement.{statement}
 use Rattle.machine.proofs.running.advance.Tie as tie
 

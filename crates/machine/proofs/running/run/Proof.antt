@@ -1,8 +1,7 @@
-use Rattle.machine.proofs.Answering.{fails, taken}
-use denote.Ref.{now}
 use mathlib.Core.Path.{_∙_}
+use denote.Ref.{now}
 use Rattle.history.specs.Trace.{Call}
-use Rattle.machine.proofs.Answering.{ran-as}
+use Rattle.machine.proofs.Answering.{fails, ran-as}
 use borrow.Author.Needs.{needs}
 use Rattle.machine.proofs.running.run.Statement.{statement}
 use Rattle.machine.proofs.running.run.Tie as tie

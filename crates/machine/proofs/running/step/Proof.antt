@@ -1,11 +1,10 @@
-use Rattle.machine.proofs.Answering.{fails, denied, taken, passes}
-use denote.Ref.{now}
 use mathlib.Core.Path.{_∙_}
-use Rattle.machine.specs.Inputs.{box, step}
+use denote.Ref.{now}
 use Rattle.history.specs.Trace.{give}
-use Rattle.machine.proofs.Answering.{alone}
-use Rattle.machine.proofs.Turns.{step-goes, step-stops}
+use Rattle.input.specs.Inputs.{box, step}
+use Rattle.input.proofs.Giving.{step-goes, step-stops}
 use Rattle.machine.specs.declared.state.Refusal.the-variants as Refusal
+use Rattle.machine.proofs.Answering.{fails, denied, passes, alone}
 use borrow.Author.Needs.{needs}
 use Rattle.machine.proofs.running.step.Statement.{statement}
 use Rattle.machine.proofs.running.step.Tie as tie
