@@ -1,0 +1,240 @@
+//! Measures the library of the C boundary beside an emulator in plain Rust, on the same work in one run, and prints for each row its name,
+//! its items and both times in nanoseconds; `bench/run` makes a table of them. Both must leave the same state, RAM, journal and results;
+//! otherwise it says what differs and stops.
+
+mod emulator;
+mod library;
+mod programs;
+mod work;
+
+#[cfg(standin)]
+extern crate mb50;
+
+use emulator::boundary;
+use library::{Functions, LINKED};
+use programs::Part;
+use std::process::ExitCode;
+use std::time::Duration;
+use work::{Desk, Work, ROOM};
+
+/// The emulator's functions.
+const THEIRS: Functions = Functions {
+    step: boundary::step,
+    tick: boundary::tick,
+    receive: boundary::receive,
+    sent: boundary::sent,
+    set_register: boundary::set_register,
+    poke: boundary::poke,
+    reset: boundary::reset,
+    run: boundary::run,
+    step_back: boundary::step_back,
+    list: boundary::list,
+    assemble: boundary::assemble,
+};
+
+/// How often each row is measured; the best time of each counts, since all that disturbs a measurement makes it longer.
+const REPETITIONS: usize = 4;
+
+/// The slots of the longest journal.
+const SLOTS: usize = 1_024;
+
+/// A row of the table.
+struct Row<'a> {
+    name: String,
+    desk: Desk,
+    work: Work<'a>,
+}
+
+fn main() -> ExitCode {
+    let listed = listed_lines();
+    let other = other_lines(&listed);
+    let long = long_lines();
+    let mut rows = step_rows();
+    rows.extend(text_rows(&listed, &other, &long));
+    for Row { name, desk, work } in rows {
+        match measure(&desk, work) {
+            Ok((ours, theirs)) => {
+                let (ours, theirs) = (ours.as_nanos(), theirs.as_nanos());
+                println!("{name}|{}|{ours}|{theirs}", work.items(&desk));
+            }
+            Err(difference) => {
+                eprintln!("{name}: the two differ: {difference}");
+                return ExitCode::FAILURE;
+            }
+        }
+    }
+    ExitCode::SUCCESS
+}
+
+/// The best times of both, or what differs between what they leave.
+fn measure(desk: &Desk, work: Work) -> Result<(Duration, Duration), String> {
+    let (mut ours, mut theirs) = (Duration::MAX, Duration::MAX);
+    for repetition in 0..REPETITIONS {
+        let (mut a, mut b) = (desk.clone(), desk.clone());
+        // Each goes first in turn, so that neither always finds the other's traces in the caches.
+        if repetition % 2 == 0 {
+            ours = ours.min(a.work(&LINKED, work));
+            theirs = theirs.min(b.work(&THEIRS, work));
+        } else {
+            theirs = theirs.min(b.work(&THEIRS, work));
+            ours = ours.min(a.work(&LINKED, work));
+        }
+        if let Some(difference) = a.difference(&b) {
+            return Err(difference);
+        }
+    }
+    Ok((ours, theirs))
+}
+
+/// Rows of steps, step-backs and inputs, each without a journal where it needs none and with the longest.
+fn step_rows() -> Vec<Row<'static>> {
+    let mut rows = Vec::new();
+    let main: [(&str, &[Part], bool); 3] = [
+        ("registers", programs::REGISTERS, false),
+        ("copied bytes", programs::COPY, false),
+        ("interrupts", programs::INTERRUPTS, true),
+    ];
+    for (name, program, ticks) in main {
+        for slots in [0, SLOTS] {
+            rows.extend(shapes(name, program, ticks, slots));
+        }
+    }
+    let more: [(&str, &[Part]); 4] = [
+        ("words and stack", programs::WORDS),
+        ("shifts and rev", programs::SHIFTS),
+        ("devices", programs::DEVICES),
+        ("exceptions", programs::EXCEPTIONS),
+    ];
+    for (name, program) in more {
+        for slots in [0, SLOTS] {
+            rows.push(long_runs(name, program, false, slots));
+        }
+    }
+    for (name, program) in [
+        ("registers", programs::REGISTERS),
+        ("copied bytes", programs::COPY),
+    ] {
+        rows.push(Row {
+            name: format!("step-backs, {name}"),
+            desk: Desk::new(programs::loaded(program), SLOTS),
+            work: Work::StepBacks { rounds: 100 },
+        });
+    }
+    for slots in [0, SLOTS] {
+        rows.push(Row {
+            name: format!("inputs that are no steps, {slots} slots"),
+            desk: Desk::new(programs::loaded(&[]), slots),
+            work: Work::Inputs { rounds: 10_000 },
+        });
+    }
+    rows
+}
+
+/// The steps of a program in long runs.
+fn long_runs(name: &str, program: &[Part], ticks: bool, slots: usize) -> Row<'static> {
+    Row {
+        name: format!("steps: {name}, runs of 65,535, {slots} slots"),
+        desk: Desk::new(programs::loaded(program), slots),
+        work: Work::Runs {
+            budget: u16::MAX,
+            ticks,
+            calls: 8,
+        },
+    }
+}
+
+/// The steps of a program in long runs, in short ones and one by one.
+fn shapes(name: &str, program: &[Part], ticks: bool, slots: usize) -> [Row<'static>; 3] {
+    let desk = Desk::new(programs::loaded(program), slots);
+    let short = Row {
+        name: format!("steps: {name}, runs of 100, {slots} slots"),
+        desk: desk.clone(),
+        work: Work::Runs {
+            budget: 100,
+            ticks,
+            calls: 4_000,
+        },
+    };
+    let lone = Row {
+        name: format!("steps: {name}, one by one, {slots} slots"),
+        desk,
+        work: Work::Steps { calls: 100_000 },
+    };
+    [long_runs(name, program, ticks, slots), short, lone]
+}
+
+/// Rows of listing and assembling.
+fn text_rows<'a>(listed: &'a [Vec<u8>], other: &'a [Vec<u8>], long: &'a [Vec<u8>]) -> [Row<'a>; 4] {
+    let lines = |name: &str, lines, rounds| Row {
+        name: name.to_string(),
+        desk: Desk::new(Vec::new(), 0),
+        work: Work::Lines { lines, rounds },
+    };
+    let listings = Row {
+        name: "listed words, every word".to_string(),
+        desk: Desk::new(vec![0xaa; ROOM << 16], 0),
+        work: Work::Listings,
+    };
+    [
+        listings,
+        lines("assembled lines, as listed", listed, 2),
+        lines("assembled lines, spaced, aliases, faulty", other, 2),
+        lines("assembled lines of 10,000 bytes", long, 50),
+    ]
+}
+
+/// The listing of every word that has one.
+fn listed_lines() -> Vec<Vec<u8>> {
+    let mut lines = Vec::new();
+    for word in 0..=u16::MAX {
+        let mut text = [0; ROOM];
+        let answer = emulator::list(word, &mut text);
+        if answer & 0xffff == 0 {
+            lines.push(text[..(answer >> 16) as usize].to_vec());
+        }
+    }
+    lines
+}
+
+/// Those lines written in other ways, and every third one with a fault.
+fn other_lines(listed: &[Vec<u8>]) -> Vec<Vec<u8>> {
+    let aliases = [
+        ("r11", "SP"),
+        ("r12", "ca"),
+        ("r13", "Ia"),
+        ("r14", "f"),
+        ("r15", "pc"),
+    ];
+    let rewrite = |(index, line): (usize, &Vec<u8>)| {
+        let mut text = String::from_utf8_lossy(line).into_owned();
+        for (name, alias) in aliases {
+            text = text.replace(name, alias);
+        }
+        match index % 6 {
+            0 => format!("  {}\t", text.replace(", ", "\t ,  ")),
+            1 => text.to_uppercase(),
+            2 => text.replace(", ", ","),
+            3 => text.replace(", ", " "),
+            4 => format!("x{text}"),
+            _ => format!("{text}9"),
+        }
+        .into_bytes()
+    };
+    listed.iter().enumerate().map(rewrite).collect()
+}
+
+/// Lines of 10,000 bytes, with many blanks or with long words.
+fn long_lines() -> Vec<Vec<u8>> {
+    let blanks = |n: usize| " ".repeat(n);
+    let letters = |n: usize| "r".repeat(n);
+    let lines = [
+        format!("mv r1, r2{}", blanks(9_991)),
+        format!("{}mv r1, r2", blanks(9_991)),
+        format!("mv{}r1, r2", blanks(9_992)),
+        format!("{} r1, r2", letters(9_993)),
+        format!("mv r1, {}", letters(9_993)),
+        letters(10_000),
+        blanks(10_000),
+    ];
+    lines.iter().map(|line| line.clone().into_bytes()).collect()
+}

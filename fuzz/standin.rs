@@ -1,0 +1,115 @@
+//! A library with the boundary's names over the benchmark's emulator, to stand in for the proved one: the harness and the fuzzer can be tried
+//! without it, the fuzzer tests the emulator itself, and a copy with a fault shows that the fuzzer finds faults.
+//!
+//! `MB50_BROKEN`, when this is compiled, names the fault: `flag`, `journal`, `guard` or `state`. Each shows only now and then.
+
+#[path = "../bench/emulator/mod.rs"]
+#[allow(dead_code)]
+mod emulator;
+
+use emulator::boundary;
+use std::slice::{from_raw_parts, from_raw_parts_mut};
+
+/// The fault of this copy.
+const BROKEN: &str = match option_env!("MB50_BROKEN") {
+    Some(name) => name,
+    None => "",
+};
+
+/// A function of the library over the emulator's.
+macro_rules! export {
+    ($name:ident, $call:ident $(, $argument:ident: $type:ty)*) => {
+        /// # Safety
+        /// The boundary's own terms.
+        #[no_mangle]
+        pub unsafe extern "C" fn $name(
+            state: *mut u16,
+            ram: *mut u8,
+            n: usize,
+            journal: *mut u16,
+            m: usize,
+            $($argument: $type,)*
+        ) -> u64 {
+            boundary::$call(state, ram, n, journal, m, $($argument),*)
+        }
+    };
+}
+
+export!(mb50_tick, tick);
+export!(mb50_receive, receive, byte: u8);
+export!(mb50_sent, sent);
+export!(mb50_set_register, set_register, number: u8, content: u16);
+export!(mb50_poke, poke, address: u16, byte: u8);
+export!(mb50_reset, reset);
+export!(mb50_run, run, budget: u16);
+
+/// # Safety
+/// The boundary's own terms.
+#[no_mangle]
+pub unsafe extern "C" fn mb50_step(
+    state: *mut u16,
+    ram: *mut u8,
+    n: usize,
+    journal: *mut u16,
+    m: usize,
+) -> u64 {
+    if BROKEN.is_empty() {
+        return boundary::step(state, ram, n, journal, m);
+    }
+    let pc = usize::from(*state.add(15));
+    let opcode = from_raw_parts(ram, n).get(pc).copied();
+    let next = usize::from(*state.add(25));
+    let result = boundary::step(state, ram, n, journal, m);
+    if result & 0xffff == 0 {
+        let state = from_raw_parts_mut(state, 32);
+        let journal = from_raw_parts_mut(journal, m);
+        spoil_step(opcode, state, journal.get_mut(32 * next..32 * next + 32));
+    }
+    result
+}
+
+/// The faults of a lone step: dec2 leaves o 0, and a word's old upper byte is not kept.
+fn spoil_step(opcode: Option<u8>, state: &mut [u16], record: Option<&mut [u16]>) {
+    if BROKEN == "flag" && opcode == Some(0x06) {
+        state[14] &= !0x80;
+    }
+    if let ("journal", Some(record)) = (BROKEN, record) {
+        record[27] &= 0x00ff;
+    }
+}
+
+/// # Safety
+/// The boundary's own terms.
+#[no_mangle]
+pub unsafe extern "C" fn mb50_step_back(
+    state: *mut u16,
+    ram: *mut u8,
+    n: usize,
+    journal: *mut u16,
+    m: usize,
+) -> u64 {
+    let last = *state.add(31);
+    let result = boundary::step_back(state, ram, n, journal, m);
+    if BROKEN == "state" && result == 0 {
+        *state.add(31) = last;
+    }
+    result
+}
+
+/// # Safety
+/// The boundary's own terms, but for the fault that writes past the output.
+#[no_mangle]
+pub unsafe extern "C" fn mb50_list(word: u16, out: *mut u8, n: usize) -> u64 {
+    let result = boundary::list(word, out, n);
+    if BROKEN == "guard" && result == (n as u64) << 16 {
+        *out.add(n) = 0;
+    }
+    result
+}
+
+/// # Safety
+/// The boundary's own terms.
+#[no_mangle]
+pub unsafe extern "C" fn mb50_assemble(line: *mut u8, n: usize) -> u64 {
+    boundary::assemble(line, n)
+}
