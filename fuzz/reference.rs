@@ -1,0 +1,88 @@
+//! The model behind the C boundary: the same words in, the same words and result out.
+
+use crate::cpu::Cpu;
+use crate::library::{Call, State};
+use crate::machine::{self, Answer, Cause, Machine};
+use crate::text;
+
+/// Makes a call on the model's machine.
+pub fn call(call: Call, state: &mut State, ram: &mut [u8], journal: &mut [u16]) -> u64 {
+    let mut machine = read(state);
+    let answer = machine.call(translated(call), ram, journal);
+    if answer.number == 0 {
+        write(&machine, state);
+    }
+    result(call, &answer)
+}
+
+/// Lists a word: the number, then the text's length.
+pub fn list(word: u16, out: &mut [u8]) -> u64 {
+    match text::list_into(word, out) {
+        Ok(length) => (length as u64) << 16,
+        Err(number) => u64::from(number),
+    }
+}
+
+/// Assembles a line: the number, then the word.
+pub fn assemble(line: &[u8]) -> u64 {
+    match text::assemble(line) {
+        Ok(word) => u64::from(word) << 16,
+        Err(number) => u64::from(number),
+    }
+}
+
+/// The state words: 0–15 registers, 16–21 csr0–csr5, 22 clock, 23 RXD + 256·TXD, 24 R + 2·T + 4·halted (modulo 8), 25 next slot, 26 records
+/// held; the others are not read.
+fn read(state: &State) -> Machine {
+    let mut cpu = Cpu::new();
+    cpu.registers.copy_from_slice(&state[..16]);
+    cpu.csrs.copy_from_slice(&state[16..22]);
+    cpu.devices.clock = state[22];
+    cpu.devices.rxd = (state[23] % 256) as u8;
+    cpu.devices.txd = (state[23] / 256) as u8;
+    cpu.devices.r = state[24] % 2 == 1;
+    cpu.devices.t = state[24] / 2 % 2 == 1;
+    cpu.halted = state[24] / 4 % 2 == 1;
+    Machine {
+        cpu,
+        next: usize::from(state[25]),
+        held: usize::from(state[26]),
+    }
+}
+
+/// The same words, with 27–31 as 0.
+fn write(machine: &Machine, state: &mut State) {
+    *state = [0; 32];
+    state[..16].copy_from_slice(&machine.cpu.registers);
+    state[16..22].copy_from_slice(&machine.cpu.csrs);
+    state[22] = machine.cpu.devices.clock;
+    state[23] = machine.cpu.keyboard();
+    state[24] = machine.cpu.marks();
+    state[25] = machine.next as u16;
+    state[26] = machine.held as u16;
+}
+
+/// Bits 0–15 the number, 16–31 the steps of a run, 32–55 the bus bytes of a step or a run, 56–63 a run's cause. The model counts a lone step
+/// as one step; the boundary has that count for a run only.
+fn result(call: Call, answer: &Answer) -> u64 {
+    let steps = match call {
+        Call::Run(_) => u64::from(answer.steps),
+        _ => 0,
+    };
+    let cause = u64::from(answer.cause == Cause::Halted);
+    u64::from(answer.number) | steps << 16 | u64::from(answer.bus) << 32 | cause << 56
+}
+
+fn translated(call: Call) -> machine::Call {
+    match call {
+        Call::Step => machine::Call::Step,
+        Call::Tick => machine::Call::Tick,
+        Call::Receive(byte) => machine::Call::Receive(byte),
+        Call::Sent => machine::Call::Sent,
+        Call::SetRegister(number, content) => machine::Call::SetRegister(number, content),
+        Call::Poke(address, byte) => machine::Call::Poke(address, byte),
+        Call::Reset => machine::Call::Reset,
+        Call::Run(budget) => machine::Call::Run(budget),
+        Call::StepBack => machine::Call::StepBack,
+    }
+}
