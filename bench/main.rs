@@ -33,7 +33,7 @@ const THEIRS: Functions = Functions {
 };
 
 /// How often each row is measured; the best time of each counts, since all that disturbs a measurement makes it longer.
-const REPETITIONS: usize = 4;
+const REPETITIONS: usize = 7;
 
 /// The slots of the longest journal.
 const SLOTS: usize = 1_024;
@@ -96,7 +96,9 @@ fn step_rows() -> Vec<Row<'static>> {
     ];
     for (name, program, ticks) in main {
         for slots in [0, SLOTS] {
-            rows.extend(shapes(name, program, ticks, slots));
+            rows.push(long_runs(name, program, ticks, slots));
+            rows.push(short_runs(name, program, ticks, slots));
+            rows.push(lone_steps(name, program, slots));
         }
     }
     let more: [(&str, &[Part]); 4] = [
@@ -106,27 +108,15 @@ fn step_rows() -> Vec<Row<'static>> {
         ("exceptions", programs::EXCEPTIONS),
     ];
     for (name, program) in more {
-        for slots in [0, SLOTS] {
-            rows.push(long_runs(name, program, false, slots));
-        }
+        rows.push(long_runs(name, program, false, 0));
+        rows.push(long_runs(name, program, false, SLOTS));
+        rows.push(lone_steps(name, program, SLOTS));
     }
-    for (name, program) in [
-        ("registers", programs::REGISTERS),
-        ("copied bytes", programs::COPY),
-    ] {
-        rows.push(Row {
-            name: format!("step-backs, {name}"),
-            desk: Desk::new(programs::loaded(program), SLOTS),
-            work: Work::StepBacks { rounds: 100 },
-        });
-    }
-    for slots in [0, SLOTS] {
-        rows.push(Row {
-            name: format!("inputs that are no steps, {slots} slots"),
-            desk: Desk::new(programs::loaded(&[]), slots),
-            work: Work::Inputs { rounds: 10_000 },
-        });
-    }
+    rows.push(step_backs("registers", programs::REGISTERS));
+    rows.push(step_backs("copied bytes", programs::COPY));
+    rows.push(step_backs("words and stack", programs::WORDS));
+    rows.push(inputs(0));
+    rows.push(inputs(SLOTS));
     rows
 }
 
@@ -138,29 +128,49 @@ fn long_runs(name: &str, program: &[Part], ticks: bool, slots: usize) -> Row<'st
         work: Work::Runs {
             budget: u16::MAX,
             ticks,
-            calls: 8,
+            calls: 4,
         },
     }
 }
 
-/// The steps of a program in long runs, in short ones and one by one.
-fn shapes(name: &str, program: &[Part], ticks: bool, slots: usize) -> [Row<'static>; 3] {
-    let desk = Desk::new(programs::loaded(program), slots);
-    let short = Row {
+/// The steps of a program in short runs.
+fn short_runs(name: &str, program: &[Part], ticks: bool, slots: usize) -> Row<'static> {
+    Row {
         name: format!("steps: {name}, runs of 100, {slots} slots"),
-        desk: desk.clone(),
+        desk: Desk::new(programs::loaded(program), slots),
         work: Work::Runs {
             budget: 100,
             ticks,
-            calls: 4_000,
+            calls: 2_000,
         },
-    };
-    let lone = Row {
+    }
+}
+
+/// The steps of a program, each a call.
+fn lone_steps(name: &str, program: &[Part], slots: usize) -> Row<'static> {
+    Row {
         name: format!("steps: {name}, one by one, {slots} slots"),
-        desk,
-        work: Work::Steps { calls: 100_000 },
-    };
-    [long_runs(name, program, ticks, slots), short, lone]
+        desk: Desk::new(programs::loaded(program), slots),
+        work: Work::Steps { calls: 50_000 },
+    }
+}
+
+/// The steps of a program taken back.
+fn step_backs(name: &str, program: &[Part]) -> Row<'static> {
+    Row {
+        name: format!("step-backs: {name}, {SLOTS} slots"),
+        desk: Desk::new(programs::loaded(program), SLOTS),
+        work: Work::StepBacks { rounds: 50 },
+    }
+}
+
+/// The other inputs.
+fn inputs(slots: usize) -> Row<'static> {
+    Row {
+        name: format!("inputs that are no steps, {slots} slots"),
+        desk: Desk::new(programs::loaded(&[]), slots),
+        work: Work::Inputs { rounds: 5_000 },
+    }
 }
 
 /// Rows of listing and assembling.
@@ -177,9 +187,9 @@ fn text_rows<'a>(listed: &'a [Vec<u8>], other: &'a [Vec<u8>], long: &'a [Vec<u8>
     };
     [
         listings,
-        lines("assembled lines, as listed", listed, 2),
-        lines("assembled lines, spaced, aliases, faulty", other, 2),
-        lines("assembled lines of 10,000 bytes", long, 50),
+        lines("assembled lines, as listed", listed, 1),
+        lines("assembled lines, spaced, aliases, faulty", other, 1),
+        lines("assembled lines of 10,000 bytes", long, 25),
     ]
 }
 
