@@ -36,8 +36,8 @@ impl<T: Copy + PartialEq> Guarded<T> {
         }
         let changed = |guard: &[T]| (0..GUARD).find(|index| guard[*index] != self.guard[*index]);
         match (changed(before), changed(after)) {
-            (Some(index), _) => Some(format!("before its start, {} elements", GUARD - index)),
-            (_, Some(index)) => Some(format!("past its end, {index} elements")),
+            (Some(index), _) => Some(format!("before its start, at -{}", GUARD - index)),
+            (_, Some(index)) => Some(format!("past its end, at +{index}")),
             _ => None,
         }
     }
