@@ -1,0 +1,1 @@
+// The sixteen marked examples, as a table about the rules and the text. No code.

@@ -1,0 +1,41 @@
+use Rattle.mb50.proofs.Crossing.{crosses}
+use Rattle.input.specs.Inputs.{step, tick, receive, sent, setRegister, poke, resets}
+use Rattle.history.specs.Trace.{give, run}
+use denote.Ref.{now}
+use borrow.Author.Needs.{needs}
+use Rattle.mb50.proofs.mb50_receive.Statement.{statement}
+use Rattle.mb50.proofs.mb50_receive.Tie as tie
+use Rattle.mb50.proofs.mb50_receive.Reads as reads
+use Rattle.mb50.proofs.mb50_receive.Lts as lts
+use Rattle.machine.proofs.inputs.receive.Reads as receive-reads
+use Rattle.mb50.proofs.words.answer.Reads as answer-reads
+use Rattle.mb50.proofs.words.taken.Reads as taken-reads
+
+-- src/lib.rt:42:9
+taken-requires : tie.Need-taken-requires
+taken-requires c κs = search needs
+
+-- src/lib.rt:43:9
+receive-requires : tie.Need-receive-requires
+receive-requires c κs = search needs
+
+-- src/lib.rt:44:5
+answer-requires : tie.Need-answer-requires
+answer-requires c κs = search needs
+
+-- src/lib.rt:33:1
+same-length : tie.Need-same-length
+same-length c = search needs
+
+-- src/lib.rt:33:1
+same-length-2 : tie.Need-same-length-2
+same-length-2 c = search needs
+
+-- src/lib.rt:33:1
+returns : tie.Need-returns
+returns c = crosses (give (receive (c .before .before .before .before .before .before .before .before .before .before .before .before .before .args .byte))) (now (c .before .before .before .before .before .before .before .before .before .before .before .before .before .args .state)) (now (c .before .before .before .before .before .before .before .before .before .before .before .before .before .args .ram)) (now (c .before .before .before .before .before .before .before .before .before .before .before .before .before .args .journal)) (c .before .before .before .before .before .before .before .before .before .taken .result) (c .before .before .before .before .before .before .receive .result) _ _ _ _ (c .before .before .before .before .before .before .before .before .before .taken .ensures) (c .before .before .before .before .before .before .receive .ensures) (c .answer .ensures _ _)
+
+pub mb50-receive-spec : {M : Type 1} → statement M
+mb50-receive-spec =
+    tie.close
+    (tie.spec taken-requires receive-requires answer-requires same-length same-length-2 returns)

@@ -1,0 +1,132 @@
+// The C boundary: the calls on 32 words of state, lent bytes and lent journal words, and the text of instructions. No rule of its own.
+mod fields;
+mod words;
+
+use machine::back;
+use machine::inputs;
+use machine::running;
+ghost use Rattle.history.specs.Trace.{Call, give, back as goesBack};
+ghost use Rattle.input.specs.Inputs.{Input};
+ghost use Rattle.mb50.specs.Boundary.{Crosses, listed, assembled};
+ghost use mathlib.Core.Path.{_≡_};
+ghost use lib.ListN.{length};
+ghost use Rattle.text.specs.Listing.{listSays, listLeaves};
+ghost use Rattle.text.specs.Assembling.{assembleSays};
+
+#[no_mangle]
+pub extern "C" fn mb50_step(state: &mut [u16; 32], ram: &mut [u8], journal: &mut [u16]) -> u64
+    ensures { λ r. ⌜ Crosses (give Input.step) (now (state .entry)) (now (ram .entry)) (now (journal .entry)) r (now (state .exit)) (now (ram .exit)) (now (journal .exit)) ⌝ }
+{
+    let m = words::taken(*state);
+    let r = running::step(m, ram, journal);
+    words::answer(state, r)
+}
+
+#[no_mangle]
+pub extern "C" fn mb50_tick(state: &mut [u16; 32], ram: &mut [u8], journal: &mut [u16]) -> u64
+    ensures { λ r. ⌜ Crosses (give Input.tick) (now (state .entry)) (now (ram .entry)) (now (journal .entry)) r (now (state .exit)) (now (ram .exit)) (now (journal .exit)) ⌝ }
+{
+    let m = words::taken(*state);
+    let r = inputs::tick(m, ram, journal);
+    words::answer(state, r)
+}
+
+#[no_mangle]
+pub extern "C" fn mb50_receive(
+    state: &mut [u16; 32],
+    ram: &mut [u8],
+    journal: &mut [u16],
+    byte: u8,
+) -> u64
+    ensures { λ r. ⌜ Crosses (give (Input.receive byte)) (now (state .entry)) (now (ram .entry)) (now (journal .entry)) r (now (state .exit)) (now (ram .exit)) (now (journal .exit)) ⌝ }
+{
+    let m = words::taken(*state);
+    let r = inputs::receive(m, ram, journal, byte);
+    words::answer(state, r)
+}
+
+#[no_mangle]
+pub extern "C" fn mb50_sent(state: &mut [u16; 32], ram: &mut [u8], journal: &mut [u16]) -> u64
+    ensures { λ r. ⌜ Crosses (give Input.sent) (now (state .entry)) (now (ram .entry)) (now (journal .entry)) r (now (state .exit)) (now (ram .exit)) (now (journal .exit)) ⌝ }
+{
+    let m = words::taken(*state);
+    let r = inputs::sent(m, ram, journal);
+    words::answer(state, r)
+}
+
+#[no_mangle]
+pub extern "C" fn mb50_set_register(
+    state: &mut [u16; 32],
+    ram: &mut [u8],
+    journal: &mut [u16],
+    number: u8,
+    content: u16,
+) -> u64
+    ensures { λ r. ⌜ Crosses (give (Input.setRegister number content)) (now (state .entry)) (now (ram .entry)) (now (journal .entry)) r (now (state .exit)) (now (ram .exit)) (now (journal .exit)) ⌝ }
+{
+    let m = words::taken(*state);
+    let r = inputs::set_register(m, ram, journal, number, content);
+    words::answer(state, r)
+}
+
+#[no_mangle]
+pub extern "C" fn mb50_poke(
+    state: &mut [u16; 32],
+    ram: &mut [u8],
+    journal: &mut [u16],
+    address: u16,
+    byte: u8,
+) -> u64
+    ensures { λ r. ⌜ Crosses (give (Input.poke address byte)) (now (state .entry)) (now (ram .entry)) (now (journal .entry)) r (now (state .exit)) (now (ram .exit)) (now (journal .exit)) ⌝ }
+{
+    let m = words::taken(*state);
+    let r = inputs::poke(m, ram, journal, address, byte);
+    words::answer(state, r)
+}
+
+#[no_mangle]
+pub extern "C" fn mb50_reset(state: &mut [u16; 32], ram: &mut [u8], journal: &mut [u16]) -> u64
+    ensures { λ r. ⌜ Crosses (give Input.resets) (now (state .entry)) (now (ram .entry)) (now (journal .entry)) r (now (state .exit)) (now (ram .exit)) (now (journal .exit)) ⌝ }
+{
+    let m = words::taken(*state);
+    let r = inputs::reset(m, ram, journal);
+    words::answer(state, r)
+}
+
+#[no_mangle]
+pub extern "C" fn mb50_run(
+    state: &mut [u16; 32],
+    ram: &mut [u8],
+    journal: &mut [u16],
+    budget: u16,
+) -> u64
+    ensures { λ r. ⌜ Crosses (Call.run budget) (now (state .entry)) (now (ram .entry)) (now (journal .entry)) r (now (state .exit)) (now (ram .exit)) (now (journal .exit)) ⌝ }
+{
+    let m = words::taken(*state);
+    let r = running::run(m, ram, journal, budget);
+    words::answer(state, r)
+}
+
+#[no_mangle]
+pub extern "C" fn mb50_step_back(state: &mut [u16; 32], ram: &mut [u8], journal: &mut [u16]) -> u64
+    ensures { λ r. ⌜ Crosses goesBack (now (state .entry)) (now (ram .entry)) (now (journal .entry)) r (now (state .exit)) (now (ram .exit)) (now (journal .exit)) ⌝ }
+{
+    let m = words::taken(*state);
+    let r = back::step_back(m, ram, journal);
+    words::answer(state, r)
+}
+
+#[no_mangle]
+pub extern "C" fn mb50_list(word: u16, out: &mut [u8]) -> u64
+    ensures { λ r. ⌜ r ≡ listed (listSays word (length (now (out .entry)))) ⌝ }
+    ensures { λ r. ⌜ now (out .exit) ≡ listLeaves word (now (out .entry)) ⌝ }
+{
+    fields::listed(text::list::list(word, out))
+}
+
+#[no_mangle]
+pub extern "C" fn mb50_assemble(line: &[u8]) -> u64
+    ensures { λ r. ⌜ r ≡ assembled (assembleSays (now (line .entry))) ⌝ }
+{
+    fields::assembled(text::assemble::assemble(line))
+}
