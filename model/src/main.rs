@@ -15,11 +15,10 @@ mod vectors;
 use std::io::{self, Read, Write};
 use std::process::ExitCode;
 
-use vectors::{calls, images, isa, lines, steps, throughput};
+use vectors::{calls, images, isa, lines, steps};
 
-const USAGE: &str = "usage: model isa-input | isa-output | text-input | text-output | lines-input N | lines-digest N | \
-                     words-input N | words-digest N | listing | listing-case K | steps-input | steps-output | \
-                     calls-input | calls-output";
+const USAGE: &str = "usage: model isa-input | isa-output | text-input | text-output | steps-input | steps-output | \
+                     calls-input | calls-output | listing | listing-case K";
 
 /// The status when there is no such case.
 const NO_CASE: u8 = 1;
@@ -38,10 +37,6 @@ fn main() -> ExitCode {
         ["steps-output"] => write(steps::output().as_bytes()),
         ["calls-input"] => write(&calls::input()),
         ["calls-output"] => write(calls::output().as_bytes()),
-        ["lines-input", passes] => sized(passes, throughput::lines_input),
-        ["lines-digest", passes] => sized(passes, |n| throughput::lines_digest(n).into_bytes()),
-        ["words-input", passes] => sized(passes, throughput::words_input),
-        ["words-digest", passes] => sized(passes, |n| throughput::words_digest(n).into_bytes()),
         ["listing"] => list_standard_input(),
         ["listing-case", number] => write_case(number),
         _ => failed(USAGE),
@@ -62,14 +57,6 @@ fn write_case(number: &str) -> ExitCode {
     match number.parse().map(images::case) {
         Ok(Some(input)) => write(&input),
         Ok(None) => ExitCode::from(NO_CASE),
-        Err(_) => failed(USAGE),
-    }
-}
-
-/// Writes what is made for a number of passes.
-fn sized(passes: &str, make: impl Fn(u8) -> Vec<u8>) -> ExitCode {
-    match passes.parse() {
-        Ok(number) => write(&make(number)),
         Err(_) => failed(USAGE),
     }
 }

@@ -11,7 +11,6 @@ pub mod lines;
 mod programs;
 mod script;
 pub mod steps;
-pub mod throughput;
 mod walks;
 
 /// A digest of a series of numbers: it starts at 1, and absorbing `x` makes it
