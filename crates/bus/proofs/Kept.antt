@@ -75,7 +75,7 @@ module _ {v : Devices} {m : List ℕ} (gv : GoodDevices v) (gm : Within 8 m) whe
 
   pub word-in : (a : ℕ) → wordAt v m a < 2 ^ 16
   unfolding wordAt
-  word-in a = join-below 8 8 (byte-in a) (byte-in (above a))
+  word-in a = join-below 8 8 (byte-in a) (byte-in _)
 
 pub record GoodBus (u : Bus) : Type 0 where
   pub devices : GoodDevices (u .devices)
