@@ -7,6 +7,7 @@ use Rattle.word.specs.Word.{plusAt, minusAt}
 use Rattle.word.specs.Bits.{bitAt, andAt, orAt, xorAt, notAt, revAt, shlAt, shrAt, shraAt}
 use Rattle.word.specs.Signed.{sumOverflows, differenceOverflows, signedAtMost, signedBelow}
 use Rattle.alu.specs.declared.Answer.{Answer}
+use Rattle.alu.specs.declared.Outcome.{Outcome}
 use Rattle.alu.specs.declared.AluOp.{AluOp}
 use Rattle.alu.specs.declared.AluOp.the-variants.{Add, And, Dec1, Dec2, Inc1, Inc2, Not, Or, Rev, Shl, Shr, Shra, Sub, Xor}
 use Rattle.alu.specs.declared.CompareOp.{CompareOp}
@@ -19,6 +20,10 @@ flagsOf z c s o = cond z (2 ^ 4) 0 + cond c (2 ^ 5) 0 + cond s (2 ^ 6) 0 + cond 
 -- "z to 1 if the result is zero"; "s to 1 if the result is negative (copies the highest bit of the result)"
 abbrev pub answerOf : ℕ → Bool → Bool → Answer
 answerOf v c o = record { value = v; flags = flagsOf (eqb v 0) c (bitAt v 15) o }
+
+-- the answer that an outcome comes to
+abbrev pub answerAs : Outcome → Answer
+answerAs r = answerOf (r .value) (r .c) (r .o)
 
 -- "c to the carry from the highest bit"; "o to 1 if a signed overflow occurs"
 unfoldable pub addOf : ℕ → ℕ → Answer

@@ -5,7 +5,7 @@ use word::signed;
 use word::sums;
 ghost use mathlib.Core.Path.{_≡_};
 ghost use Prim.Native.Nat.{_%_};
-ghost use Rattle.alu.specs.Unit.{flagsOf, answerOf, addOf, subOf, logicOf, shlOf, shrOf, shraOf, aluOf, compareOf};
+ghost use Rattle.alu.specs.Unit.{flagsOf, answerAs, addOf, subOf, logicOf, shlOf, shrOf, shraOf, aluOf, compareOf};
 
 pub enum AluOp {
     Add,
@@ -41,76 +41,80 @@ fn flags(z: bool, c: bool, s: bool, o: bool) -> u16
     choice::weigh(z, 16) + choice::weigh(c, 32) + choice::weigh(s, 64) + choice::weigh(o, 128)
 }
 
-// z and s go by the value.
-fn answered(v: u16, c: bool, o: bool) -> Answer
-    ensures { λ r. ⌜ r ≡ answerOf v c o ⌝ }
+// What an operation finds: z and s, which go by the value, are not yet made.
+struct Outcome {
+    value: u16,
+    c: bool,
+    o: bool,
+}
+
+fn add(a: u16, b: u16) -> Outcome
+    ensures { λ r. ⌜ answerAs r ≡ addOf a b ⌝ }
 {
-    Answer {
-        value: v,
-        flags: flags(v == 0, c, bits::bit(v, 15), o),
+    Outcome {
+        value: sums::plus(a, b),
+        c: 65536 <= a as u32 + b as u32,
+        o: signed::sum_overflows(a, b),
     }
 }
 
-fn add(a: u16, b: u16) -> Answer
-    ensures { λ r. ⌜ r ≡ addOf a b ⌝ }
+fn sub(a: u16, b: u16) -> Outcome
+    ensures { λ r. ⌜ answerAs r ≡ subOf a b ⌝ }
 {
-    answered(
-        sums::plus(a, b),
-        65536 <= a as u32 + b as u32,
-        signed::sum_overflows(a, b),
-    )
+    Outcome {
+        value: sums::minus(a, b),
+        c: a < b,
+        o: signed::difference_overflows(a, b),
+    }
 }
 
-fn sub(a: u16, b: u16) -> Answer
-    ensures { λ r. ⌜ r ≡ subOf a b ⌝ }
+fn logic(v: u16) -> Outcome
+    ensures { λ r. ⌜ answerAs r ≡ logicOf v ⌝ }
 {
-    answered(sums::minus(a, b), a < b, signed::difference_overflows(a, b))
+    Outcome {
+        value: v,
+        c: false,
+        o: false,
+    }
 }
 
-fn logic(v: u16) -> Answer
-    ensures { λ r. ⌜ r ≡ logicOf v ⌝ }
-{
-    answered(v, false, false)
-}
-
-fn shl(a: u16, by: u16) -> Answer
-    ensures { λ r. ⌜ r ≡ shlOf a (by % 16) ⌝ }
+fn shl(a: u16, by: u16) -> Outcome
+    ensures { λ r. ⌜ answerAs r ≡ shlOf a (by % 16) ⌝ }
 {
     let v = bits::shl(a, by);
     let top = bits::bit(a, 15);
-    answered(
-        v,
-        choice::both(by % 16 == 1, top),
-        choice::unlike(top, bits::bit(v, 15)),
-    )
+    Outcome {
+        value: v,
+        c: choice::both(by % 16 == 1, top),
+        o: choice::unlike(top, bits::bit(v, 15)),
+    }
 }
 
-fn shr(a: u16, by: u16) -> Answer
-    ensures { λ r. ⌜ r ≡ shrOf a (by % 16) ⌝ }
+fn shr(a: u16, by: u16) -> Outcome
+    ensures { λ r. ⌜ answerAs r ≡ shrOf a (by % 16) ⌝ }
 {
     let v = bits::shr(a, by);
     let top = bits::bit(a, 15);
-    answered(
-        v,
-        choice::both(by % 16 == 1, bits::bit(a, 0)),
-        choice::unlike(top, bits::bit(v, 15)),
-    )
+    Outcome {
+        value: v,
+        c: choice::both(by % 16 == 1, bits::bit(a, 0)),
+        o: choice::unlike(top, bits::bit(v, 15)),
+    }
 }
 
-fn shra(a: u16, by: u16) -> Answer
-    ensures { λ r. ⌜ r ≡ shraOf a (by % 16) ⌝ }
+fn shra(a: u16, by: u16) -> Outcome
+    ensures { λ r. ⌜ answerAs r ≡ shraOf a (by % 16) ⌝ }
 {
     let one = by % 16 == 1;
-    answered(
-        bits::shra(a, by),
-        choice::both(one, bits::bit(a, 0)),
-        choice::both(one, a == 65535),
-    )
+    Outcome {
+        value: bits::shra(a, by),
+        c: choice::both(one, bits::bit(a, 0)),
+        o: choice::both(one, a == 65535),
+    }
 }
 
-// The value and the flags of an operation on the destination's and the source's words.
-pub fn compute(op: AluOp, d: u16, s: u16) -> Answer
-    ensures { λ r. ⌜ r ≡ aluOf op d s ⌝ }
+fn operate(op: AluOp, d: u16, s: u16) -> Outcome
+    ensures { λ r. ⌜ answerAs r ≡ aluOf op d s ⌝ }
 {
     match op {
         AluOp::Add => add(d, s),
@@ -127,6 +131,19 @@ pub fn compute(op: AluOp, d: u16, s: u16) -> Answer
         AluOp::Shra => shra(d, s),
         AluOp::Sub => sub(d, s),
         AluOp::Xor => logic(bits::xor(d, s)),
+    }
+}
+
+// The value and the flags of an operation on the destination's and the source's words. The flags are made in this one place, once for
+// all operations, which also keeps the compiled step small.
+pub fn compute(op: AluOp, d: u16, s: u16) -> Answer
+    ensures { λ r. ⌜ r ≡ aluOf op d s ⌝ }
+{
+    let found = operate(op, d, s);
+    let v = found.value;
+    Answer {
+        value: v,
+        flags: flags(v == 0, found.c, bits::bit(v, 15), found.o),
     }
 }
 

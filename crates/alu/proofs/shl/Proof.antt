@@ -18,9 +18,6 @@ bit-requires-2 c κs = search needs
 unlike-requires : tie.Need-unlike-requires
 unlike-requires c κs = search needs
 
-answered-requires : tie.Need-answered-requires
-answered-requires c κs = search needs
-
 returns : tie.Need-returns
 unfolding shlOf
 returns c = cc
@@ -28,11 +25,4 @@ returns c = cc
 pub shl-spec : {M : Type 1} → statement M
 shl-spec =
     tie.close
-    (tie.spec
-    shl-requires
-    bit-requires
-    both-requires
-    bit-requires-2
-    unlike-requires
-    answered-requires
-    returns)
+    (tie.spec shl-requires bit-requires both-requires bit-requires-2 unlike-requires returns)

@@ -21,9 +21,6 @@ bit-requires-3 c κs = search needs
 unlike-requires : tie.Need-unlike-requires
 unlike-requires c κs = search needs
 
-answered-requires : tie.Need-answered-requires
-answered-requires c κs = search needs
-
 returns : tie.Need-returns
 unfolding shrOf
 returns c = cc
@@ -38,5 +35,4 @@ shr-spec =
     both-requires
     bit-requires-3
     unlike-requires
-    answered-requires
     returns)

@@ -15,14 +15,9 @@ both-requires c κs = search needs
 both-requires-2 : tie.Need-both-requires-2
 both-requires-2 c κs = search needs
 
-answered-requires : tie.Need-answered-requires
-answered-requires c κs = search needs
-
 returns : tie.Need-returns
 unfolding shraOf
 returns c = cc
 
 pub shra-spec : {M : Type 1} → statement M
-shra-spec =
-    tie.close
-    (tie.spec shra-requires bit-requires both-requires both-requires-2 answered-requires returns)
+shra-spec = tie.close (tie.spec shra-requires bit-requires both-requires both-requires-2 returns)

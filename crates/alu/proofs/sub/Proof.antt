@@ -9,13 +9,9 @@ minus-requires c κs = search needs
 difference-overflows-requires : tie.Need-difference-overflows-requires
 difference-overflows-requires c κs = search needs
 
-answered-requires : tie.Need-answered-requires
-answered-requires c κs = search needs
-
 returns : tie.Need-returns
 unfolding subOf
 returns c = cc
 
 pub sub-spec : {M : Type 1} → statement M
-sub-spec =
-    tie.close (tie.spec minus-requires difference-overflows-requires answered-requires returns)
+sub-spec = tie.close (tie.spec minus-requires difference-overflows-requires returns)
