@@ -1,4 +1,5 @@
 pub mod Lists
 pub mod Keyed
 pub mod Tables
+pub mod Matches
 pub mod Spelling

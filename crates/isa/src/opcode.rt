@@ -1,11 +1,14 @@
-// What each opcode byte is: one table for stepping, listing and assembling.
+// What each opcode byte is: by match for stepping and listing, since a constant array is written anew at each call that reads it, and by
+// one table of all of them for assembling.
 use crate::keys;
 use alu::AluOp;
 use alu::CompareOp;
 ghost use mathlib.Core.Path.{_≡_};
+ghost use mathlib.Core.List.{_++_};
 ghost use lib.ListN.{getD};
-ghost use Rattle.isa.specs.Opcode.{meaning, opcodeNamed};
-ghost use Rattle.isa.specs.Table.{alus, compares, moves, loads, stores, operationOf, pack, told, toldOf, TellsAll};
+ghost use Rattle.isa.specs.Names.{bytes};
+ghost use Rattle.isa.specs.Opcode.{meaning, plain, reason2, conditionName, opcodeNamed};
+ghost use Rattle.isa.specs.Table.{alus, compares, moves, loads, stores, operationOf, pack, TellsAll};
 ghost use Rattle.alu.specs.declared.AluOp.the-variants.{Xor};
 ghost use Rattle.alu.specs.declared.CompareOp.the-variants.{Cmps};
 ghost use Rattle.isa.specs.declared.opcode.MoveOp.the-variants.{Reti};
@@ -317,13 +320,6 @@ pub fn table() -> [u64; 256]
     TABLE
 }
 
-fn entry(opcode: u8) -> u64
-    ensures { λ r. ⌜ told r ≡ toldOf opcode ⌝ }
-{
-    let entries = table();
-    entries[opcode as usize]
-}
-
 fn alu_op(place: u8) -> AluOp
     ensures { λ r. ⌜ r ≡ getD alus place Xor ⌝ }
 {
@@ -404,18 +400,160 @@ pub fn operation(entry: u64) -> Op
     }
 }
 
+// The operation of an opcode below 30.
+fn plain_op(opcode: u8) -> Op
+    ensures { λ r. ⌜ r ≡ getD plain opcode reason2 .op ⌝ }
+{
+    match opcode {
+        0 => Op::Illegal(1),
+        1 => Op::Alu(AluOp::Add),
+        2 => Op::Alu(AluOp::And),
+        3 => Op::Move(MoveOp::Csrr),
+        4 => Op::Move(MoveOp::Csrw),
+        5 => Op::Alu(AluOp::Dec1),
+        6 => Op::Alu(AluOp::Dec2),
+        7 => Op::Move(MoveOp::Exch),
+        8 => Op::Alu(AluOp::Inc1),
+        9 => Op::Alu(AluOp::Inc2),
+        10 => Op::Load(LoadOp::Ld),
+        11 => Op::Load(LoadOp::Ldb),
+        12 => Op::Load(LoadOp::Ldis),
+        13 => Op::Illegal(2),
+        14 => Op::Move(MoveOp::Mv),
+        15 => Op::Illegal(2),
+        16 => Op::Alu(AluOp::Not),
+        17 => Op::Alu(AluOp::Or),
+        18 => Op::Alu(AluOp::Shl),
+        19 => Op::Alu(AluOp::Shr),
+        20 => Op::Alu(AluOp::Shra),
+        21 => Op::Store(StoreOp::Sto),
+        22 => Op::Store(StoreOp::Stob),
+        23 => Op::Store(StoreOp::Ddsto),
+        24 => Op::Alu(AluOp::Sub),
+        25 => Op::Compare(CompareOp::Cmpu),
+        26 => Op::Alu(AluOp::Xor),
+        27 => Op::Compare(CompareOp::Cmps),
+        28 => Op::Move(MoveOp::Reti),
+        29 => Op::Alu(AluOp::Rev),
+        _ => Op::Illegal(2),
+    }
+}
+
 // What an opcode byte does.
 pub fn decode(opcode: u8) -> Op
     ensures { λ r. ⌜ r ≡ meaning opcode .op ⌝ }
 {
-    operation(entry(opcode))
+    if opcode < 30 {
+        return plain_op(opcode);
+    }
+    match opcode / 16 {
+        9 => Op::Load(LoadOp::LdIf),
+        10 => Op::Load(LoadOp::LdisIf),
+        12 => Op::Move(MoveOp::MvIf),
+        _ => Op::Illegal(2),
+    }
+}
+
+// The mnemonic of an opcode below 30, as one number.
+fn plain_name(opcode: u8) -> u64
+    ensures { λ r. ⌜ r ≡ pack (getD plain opcode reason2 .name) ⌝ }
+{
+    match opcode {
+        0 => 0x6c6c69,
+        1 => 0x646461,
+        2 => 0x646e61,
+        3 => 0x72727363,
+        4 => 0x77727363,
+        5 => 0x31636564,
+        6 => 0x32636564,
+        7 => 0x68637865,
+        8 => 0x31636e69,
+        9 => 0x32636e69,
+        10 => 0x646c,
+        11 => 0x62646c,
+        12 => 0x7369646c,
+        13 => 0,
+        14 => 0x766d,
+        15 => 0,
+        16 => 0x746f6e,
+        17 => 0x726f,
+        18 => 0x6c6873,
+        19 => 0x726873,
+        20 => 0x61726873,
+        21 => 0x6f7473,
+        22 => 0x626f7473,
+        23 => 0x6f74736464,
+        24 => 0x627573,
+        25 => 0x75706d63,
+        26 => 0x726f78,
+        27 => 0x73706d63,
+        28 => 0x69746572,
+        29 => 0x766572,
+        _ => 0,
+    }
+}
+
+// The name of a conditional opcode's condition, as one number.
+fn condition_name(opcode: u8) -> u64
+    ensures { λ r. ⌜ r ≡ pack (conditionName opcode) ⌝ }
+{
+    match opcode % 16 {
+        0 => 0x30666e,
+        1 => 0x31666e,
+        2 => 0x32666e,
+        3 => 0x33666e,
+        4 => 0x7a6e,
+        5 => 0x636e,
+        6 => 0x736e,
+        7 => 0x6f6e,
+        8 => 0x3066,
+        9 => 0x3166,
+        10 => 0x3266,
+        11 => 0x3366,
+        12 => 0x7a,
+        13 => 0x63,
+        14 => 0x73,
+        _ => 0x6f,
+    }
+}
+
+// The same with `is` after it.
+fn condition_is_name(opcode: u8) -> u64
+    ensures { λ r. ⌜ r ≡ pack (conditionName opcode ++ bytes "is") ⌝ }
+{
+    match opcode % 16 {
+        0 => 0x736930666e,
+        1 => 0x736931666e,
+        2 => 0x736932666e,
+        3 => 0x736933666e,
+        4 => 0x73697a6e,
+        5 => 0x7369636e,
+        6 => 0x7369736e,
+        7 => 0x73696f6e,
+        8 => 0x73693066,
+        9 => 0x73693166,
+        10 => 0x73693266,
+        11 => 0x73693366,
+        12 => 0x73697a,
+        13 => 0x736963,
+        14 => 0x736973,
+        _ => 0x73696f,
+    }
 }
 
 // An opcode's mnemonic as one number, its first byte lowest; 0 where the opcode gives reason 2.
 pub fn mnemonic(opcode: u8) -> u64
     ensures { λ r. ⌜ r ≡ pack (meaning opcode .name) ⌝ }
 {
-    keys::name(entry(opcode))
+    if opcode < 30 {
+        return plain_name(opcode);
+    }
+    match opcode / 16 {
+        9 => 0x646c + 0x10000 * condition_name(opcode),
+        10 => 0x646c + 0x10000 * condition_is_name(opcode),
+        12 => 0x766d + 0x10000 * condition_name(opcode),
+        _ => 0,
+    }
 }
 
 // The opcode that a mnemonic of either case stands for.
