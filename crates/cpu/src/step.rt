@@ -12,10 +12,9 @@ use isa::register::F;
 use isa::register::PC;
 use word::sums;
 ghost use mathlib.Core.Path.{_≡_};
-ghost use Rattle.isa.specs.Table.{TellsAll};
 ghost use Rattle.word.specs.Word.{lowAt, highAt};
 ghost use Rattle.bus.specs.State.{cpu};
-ghost use Rattle.cpu.specs.Step.{executed, stepBy, stepOf, listed, quietly, toldOf, toldAs};
+ghost use Rattle.cpu.specs.Step.{executed, stepOf, quietly, toldOf, toldAs};
 
 // What a step leaves, beside the lent registers, CSRs and bytes: the device registers, the halted mark, how many bytes it wrote through memory,
 // their first address, what they wrote over, how many bus bytes.
@@ -94,17 +93,15 @@ fn execute(
     }
 }
 
-// By the rules, if the table tells them, as that of isa::opcode::table does; by what the table says in any case.
+// The interrupt or the instruction that is due.
 pub fn step(
     regs: &mut [u16; 16],
     csrs: &mut [u16; 6],
     ram: &mut [u8],
     v: Devices,
     halted: bool,
-    table: &[u64; 256],
 ) -> Done
-    ensures { λ q. ⌜ toldAs (now (regs .exit)) (now (csrs .exit)) q (now (ram .exit)) ≡ toldOf (now (ram .entry)) (stepBy (listed (now (table .entry))) (cpu (now (regs .entry)) (now (csrs .entry)) v halted) (now (ram .entry))) ⌝ }
-    ensures by_rules { λ q. ⌜ (TellsAll (now (table .entry)) → toldAs (now (regs .exit)) (now (csrs .exit)) q (now (ram .exit)) ≡ toldOf (now (ram .entry)) (stepOf (cpu (now (regs .entry)) (now (csrs .entry)) v halted) (now (ram .entry)))) ⌝ }
+    ensures { λ q. ⌜ toldAs (now (regs .exit)) (now (csrs .exit)) q (now (ram .exit)) ≡ toldOf (now (ram .entry)) (stepOf (cpu (now (regs .entry)) (now (csrs .entry)) v halted) (now (ram .entry))) ⌝ }
 {
     let f = regs[F];
     if exceptions::due(f) {
@@ -121,7 +118,7 @@ pub fn step(
         ram,
         v,
         halted,
-        opcode::operation(table[first as usize]),
+        opcode::decode(first),
         first,
         second,
     )

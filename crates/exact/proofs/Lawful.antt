@@ -18,7 +18,6 @@ use Rattle.bus.proofs.Kept.{picked, within-set, reg-set, csr0-set, reset-good}
 use Rattle.bus.proofs.Touched.{kept-length}
 use Rattle.cpu.proofs.Kept.{step-good}
 use Rattle.cpu.proofs.Touched.{step-changes}
-use Rattle.isa.specs.Opcode.{meaning}
 use Rattle.history.specs.Undo.{Touched}
 use Rattle.history.specs.Trace.{Box, Next, gives, Undo, undoOf}
 use Rattle.history.specs.Ring.{ring}
@@ -62,7 +61,7 @@ module _ (b : Box Cpu) (g : GoodBox b) where
   unfolding nextOf
   steps =
       let s = step-good (g .cpu) (g .bytes) in
-      let t = step-changes (λ o. meaning o .op) (b .cpu) (b .ram) in
+      let t = step-changes (b .cpu) (b .ram) in
       picked (Lawful GoodBox b) (b .cpu .halted) (omega arith)
       (record { cpu = s .cpu; bytes = s .ram; size = omega (arith, kept-length t, g .size) }, touches t)
 

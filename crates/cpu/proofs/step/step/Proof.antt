@@ -1,6 +1,3 @@
-use Rattle.cpu.proofs.Steps.{entry-ruled, ruled}
-use mathlib.Core.Path.{_∙_}
-use native.Mathlib.Omega.{arith}
 use Rattle.cpu.proofs.Steps.{interrupts, fetches}
 use denote.Ref.{now}
 use borrow.Author.Needs.{needs}
@@ -20,8 +17,7 @@ quiet-requires : tie.Need-quiet-requires
 quiet-requires c κs = search needs
 
 returns : tie.Need-returns
-returns c = let e = interrupts (now (c .before .before .before .before .before .before .before .args .regs)) (now (c .before .before .before .before .before .before .before .args .csrs)) (c .before .before .before .before .before .before .before .args .v) (c .before .before .before .before .before .before .before .args .halted) (now (c .before .before .before .before .before .before .before .args .ram)) (now (c .before .before .before .before .before .before .before .args .table)) _ _ _ (c .before .before .before .before .due .ensures) (c .before .before .before .if1 .taken) (c .before .enter .ensures) (c .quiet .ensures) in
-    (e, λ t. e ∙ entry-ruled (now (c .before .before .before .before .before .before .before .args .regs)) (now (c .before .before .before .before .before .before .before .args .csrs)) (c .before .before .before .before .before .before .before .args .v) (c .before .before .before .before .before .before .before .args .halted) (now (c .before .before .before .before .before .before .before .args .ram)) (now (c .before .before .before .before .before .before .before .args .table)) _ (c .before .before .before .before .due .ensures) (c .before .before .before .if1 .taken))
+returns c = interrupts (now (c .before .before .before .before .before .before .before .args .regs)) (now (c .before .before .before .before .before .before .before .args .csrs)) (c .before .before .before .before .before .before .before .args .v) (c .before .before .before .before .before .before .before .args .halted) (now (c .before .before .before .before .before .before .before .args .ram)) _ _ _ (c .before .before .before .before .due .ensures) (c .before .before .before .if1 .taken) (c .before .enter .ensures) (c .quiet .ensures)
 
 element-copy-out-pc : tie.Need-element-copy-out-pc
 element-copy-out-pc c = search needs
@@ -41,17 +37,8 @@ plus-requires-2 c κs = search needs
 element-write-regs : tie.Need-element-write-regs
 element-write-regs c = search needs
 
-cast-operation : tie.Need-cast-operation
-cast-operation c = search needs
-
-mul-operation : tie.Need-mul-operation
-mul-operation c = search needs
-
-element-copy-out-operation : tie.Need-element-copy-out-operation
-element-copy-out-operation c = search needs
-
-operation-requires : tie.Need-operation-requires
-operation-requires c κs = search needs
+decode-requires : tie.Need-decode-requires
+decode-requires c κs = search needs
 
 execute-requires : tie.Need-execute-requires
 execute-requires c κs = search needs
@@ -60,8 +47,7 @@ same-length : tie.Need-same-length
 same-length c = search needs
 
 returns-2 : tie.Need-returns-2
-returns-2 c = let e = fetches (now (c .before .before .before .before .before .before .before .before .before .before .before .before .before .before .before .before .before .before .before .args .regs)) (now (c .before .before .before .before .before .before .before .before .before .before .before .before .before .before .before .before .before .before .before .args .csrs)) (c .before .before .before .before .before .before .before .before .before .before .before .before .before .before .before .before .before .before .before .args .v) (c .before .before .before .before .before .before .before .before .before .before .before .before .before .before .before .before .before .before .before .args .halted) (now (c .before .before .before .before .before .before .before .before .before .before .before .before .before .before .before .before .before .before .before .args .ram)) (now (c .before .before .before .before .before .before .before .before .before .before .before .before .before .before .before .before .before .before .before .args .table)) _ _ _ _ _ _ _ (c .before .before .before .before .before .before .before .before .before .before .before .before .before .before .before .before .due .ensures) (c .before .before .before .before .before .before .before .before .before .before .before .before .before .before .before .if1 .left) (c .before .before .before .before .before .before .before .before .before .before .before .before .read-byte .ensures) (c .before .before .before .before .before .before .before .before .before .before .plus .ensures) (c .before .before .before .before .before .before .before .before .before .read-byte2 .ensures) (c .before .before .before .before .before .before .before .before .plus2 .ensures) (c .before .before .before .operation .ensures) (c .before .before .execute .ensures) in
-    (e, λ t. e ∙ ruled (now (c .before .before .before .before .before .before .before .before .before .before .before .before .before .before .before .before .before .before .before .args .regs)) (now (c .before .before .before .before .before .before .before .before .before .before .before .before .before .before .before .before .before .before .before .args .csrs)) (c .before .before .before .before .before .before .before .before .before .before .before .before .before .before .before .before .before .before .before .args .v) (c .before .before .before .before .before .before .before .before .before .before .before .before .before .before .before .before .before .before .before .args .halted) (now (c .before .before .before .before .before .before .before .before .before .before .before .before .before .before .before .before .before .before .before .args .ram)) (now (c .before .before .before .before .before .before .before .before .before .before .before .before .before .before .before .before .before .before .before .args .table)) _ (c .before .before .before .before .before .before .before .before .before .before .before .before .read-byte .ensures) (omega arith) t)
+returns-2 c = fetches (now (c .before .before .before .before .before .before .before .before .before .before .before .before .before .before .before .before .before .before .args .regs)) (now (c .before .before .before .before .before .before .before .before .before .before .before .before .before .before .before .before .before .before .args .csrs)) (c .before .before .before .before .before .before .before .before .before .before .before .before .before .before .before .before .before .before .args .v) (c .before .before .before .before .before .before .before .before .before .before .before .before .before .before .before .before .before .before .args .halted) (now (c .before .before .before .before .before .before .before .before .before .before .before .before .before .before .before .before .before .before .args .ram)) _ _ _ _ _ _ _ (c .before .before .before .before .before .before .before .before .before .before .before .before .before .before .before .due .ensures) (c .before .before .before .before .before .before .before .before .before .before .before .before .before .before .if1 .left) (c .before .before .before .before .before .before .before .before .before .before .before .read-byte .ensures) (c .before .before .before .before .before .before .before .before .before .plus .ensures) (c .before .before .before .before .before .before .before .before .read-byte2 .ensures) (c .before .before .before .before .before .before .before .plus2 .ensures) (c .before .before .before .decode .ensures) (c .before .before .execute .ensures)
 
 pub step-spec : {M : Type 1} → statement M
 step-spec =
@@ -78,10 +64,7 @@ step-spec =
     read-byte-requires-2
     plus-requires-2
     element-write-regs
-    cast-operation
-    mul-operation
-    element-copy-out-operation
-    operation-requires
+    decode-requires
     execute-requires
     same-length
     returns-2)
