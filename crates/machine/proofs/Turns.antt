@@ -11,7 +11,6 @@ use Rattle.bus.specs.declared.state.Devices.{Devices}
 use Rattle.cpu.specs.Step.{Step, tells, stepOf, Told, toldOf, toldAs}
 use Rattle.cpu.specs.declared.step.Done.{Done}
 use Rattle.cpu.proofs.Touched.{step-changes}
-use Rattle.isa.specs.Opcode.{meaning}
 use Rattle.history.specs.Trace.{undoOf, Answer as AnswerOf, answers, stopped, budget as spent, ran, after}
 use Rattle.history.specs.Ring.{Ring, ringOf, pushed, slots, ring}
 use Rattle.history.proofs.Runs.{plus, ran-start, ran-more, ran-stopped, ran-done}
@@ -57,7 +56,7 @@ module _ (g k : List ℕ) (v : Devices) (h : Bool) (m ws : List ℕ) (next held 
       let rr : r ≡ recordOf (undoOf (box c m) (x .count) (x .first)) =
       er ∙ ap (λ (y : ℕ). recordWith c (q .count) (q .first) y) o
       ∙ ap (λ (y : Step). recordWith c (y .count) (y .first) (oldBytes m (x .count) (x .first))) s
-      ∙ recorded c m (step-changes (λ i. meaning i .op) c m)
+      ∙ recorded c m (step-changes c m)
       in
       ap (λ (y : Step). at (box (y .cpu) (y .ram)) (ringOf ws′ next′ held′)) s
       ∙ ap (λ (j : Ring). at (box (x .cpu) (x .ram)) j) (ej ∙ ap (λ (y : List ℕ). pushed (slots ws) y (ringOf ws next held)) rr)

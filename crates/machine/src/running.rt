@@ -10,7 +10,6 @@ use bus::state::Cpu;
 use cpu::step;
 use history::Place;
 use input::record;
-use isa::opcode;
 ghost use mathlib.Core.Path.{_≡_};
 ghost use Rattle.history.specs.Trace.{Call, give, ran};
 ghost use Rattle.history.specs.Ring.{ring};
@@ -36,7 +35,6 @@ fn told(steps: u16, bus: u32, stop: Stop) -> Run
 fn advance(c: Cpu, place: Place, ram: &mut [u8], journal: &mut [u16], budget: u16) -> Ended
     ensures { λ r. ⌜ ran machine (ring recordOf decoded) budget (standing c place (now (ram .entry)) (now (journal .entry))) ≡ ranAs r (now (ram .exit)) (now (journal .exit)) ⌝ }
 {
-    let table = opcode::table();
     let mut regs = c.regs;
     let mut csrs = c.csrs;
     let mut v = c.devices;
@@ -53,7 +51,7 @@ fn advance(c: Cpu, place: Place, ram: &mut [u8], journal: &mut [u16], budget: u1
         }
         let g = regs;
         let k = csrs;
-        let q = step::step(&mut regs, &mut csrs, ram, v, halted, &table);
+        let q = step::step(&mut regs, &mut csrs, ram, v, halted);
         let words = record::encode(g, k, v, halted, q.count, q.first, q.old);
         at = history::push(journal, at, words);
         v = q.devices;
