@@ -1,2 +1,3 @@
 pub mod Instructions
+pub mod Asked
 pub mod Over
