@@ -1,7 +1,9 @@
--- What `load` asks of its operation before it acts. No rules: proofs/Parts.antt shows that it leads to those of Instructions.
+-- What `load` and `store` ask of their operation before they act. No rules: proofs/Parts.antt shows that they lead to those of Instructions.
 use mathlib.Core.Bool.{Bool, true, false}
 use Rattle.isa.specs.declared.opcode.LoadOp.{LoadOp}
 use Rattle.isa.specs.declared.opcode.LoadOp.the-variants.{Ld, Ldb, Ldis, LdIf, LdisIf}
+use Rattle.isa.specs.declared.opcode.StoreOp.{StoreOp}
+use Rattle.isa.specs.declared.opcode.StoreOp.the-variants.{Sto, Stob, Ddsto}
 
 -- a byte is loaded, not a word
 abbrev pub loadsByte : LoadOp → Bool
@@ -34,3 +36,15 @@ stepsPast Ldb = false
 stepsPast Ldis = false
 stepsPast LdIf = false
 stepsPast LdisIf = true
+
+-- a byte is stored, not a word
+abbrev pub storesByte : StoreOp → Bool
+storesByte Sto = false
+storesByte Stob = true
+storesByte Ddsto = false
+
+-- the destination loses 2 before the store
+abbrev pub lowers : StoreOp → Bool
+lowers Sto = false
+lowers Stob = false
+lowers Ddsto = true

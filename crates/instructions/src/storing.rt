@@ -5,12 +5,14 @@ use isa::opcode::StoreOp;
 use word::halves;
 use word::sums;
 ghost use mathlib.Core.Path.{_≡_};
+ghost use mathlib.Core.Bool.{cond};
 ghost use mathlib.Core.List.{List};
-ghost use Prim.Native.Nat.{ℕ, _≤_};
+ghost use Prim.Native.Nat.{ℕ, _<_, _≤_};
 ghost use Rattle.word.specs.Word.{lowAt, highAt};
 ghost use Rattle.bus.specs.State.{word as wordIn};
 ghost use Rattle.bus.specs.Addresses.{bus as busAt, putByte, putWord};
-ghost use Rattle.instructions.specs.Instructions.{stores, stored};
+ghost use Rattle.instructions.specs.Instructions.{stores, minus2, stored};
+ghost use Rattle.instructions.specs.Asked.{lowers as lowersFirst, storesByte};
 ghost use Rattle.instructions.specs.Over.{overOf, overAs};
 
 // What a store leaves, beside the lent registers and bytes.
@@ -56,22 +58,48 @@ fn store_byte(v: Devices, ram: &mut [u8], a: u16, b: u8) -> Written
     }
 }
 
+fn sub2_if(regs: &mut [u16; 16], i: usize, loses: bool)
+    requires { ⌜ i < 16 ⌝ }
+    ensures { λ _. ⌜ now (regs .exit) ≡ cond loses (minus2 (now (regs .entry)) i) (now (regs .entry)) ⌝ }
+{
+    if loses {
+        let w = regs[i];
+        regs[i] = sums::minus(w, 2);
+    }
+}
+
+fn lowers(op: StoreOp) -> bool
+    ensures { λ r. ⌜ r ≡ lowersFirst op ⌝ }
+{
+    match op {
+        StoreOp::Sto => false,
+        StoreOp::Stob => false,
+        StoreOp::Ddsto => true,
+    }
+}
+
+fn stores_byte(op: StoreOp) -> bool
+    ensures { λ r. ⌜ r ≡ storesByte op ⌝ }
+{
+    match op {
+        StoreOp::Sto => false,
+        StoreOp::Stob => true,
+        StoreOp::Ddsto => false,
+    }
+}
+
+// One store of a word for sto and ddsto, as `load` has one load of a word.
 pub fn store(regs: &mut [u16; 16], v: Devices, ram: &mut [u8], op: StoreOp, operands: u8) -> Written
     ensures { λ q. ⌜ overAs (now (regs .exit)) q (now (ram .exit)) ≡ overOf (now (ram .entry)) (stored op (now (regs .entry)) v (now (ram .entry)) (highAt 4 operands) (lowAt 4 operands)) ⌝ }
     ensures few { λ q. ⌜ q .count ≤ 2 ⌝ }
 {
     let d = (operands / 16) as usize;
     let s = (operands % 16) as usize;
+    sub2_if(regs, d, lowers(op));
     let a = regs[d];
     let w = regs[s];
-    match op {
-        StoreOp::Sto => store_word(v, ram, a, w),
-        StoreOp::Stob => store_byte(v, ram, a, halves::low(w)),
-        StoreOp::Ddsto => {
-            regs[d] = sums::minus(a, 2);
-            let lower = regs[d];
-            let x = regs[s];
-            store_word(v, ram, lower, x)
-        }
+    if stores_byte(op) {
+        return store_byte(v, ram, a, halves::low(w));
     }
+    store_word(v, ram, a, w)
 }

@@ -1,4 +1,6 @@
-use Rattle.instructions.specs.Instructions.{stored}
+use Rattle.instructions.proofs.Parts.{byte-stores, word-stores}
+use denote.Ref.{now}
+use Prim.Native.Nat.{_/_, _%_}
 use mathlib.Core.Path.{_∙_}
 use borrow.Author.Needs.{needs}
 use Rattle.instructions.proofs.storing.store.Statement.{statement}
@@ -9,6 +11,12 @@ cast-d c = search needs
 
 cast-s : tie.Need-cast-s
 cast-s c = search needs
+
+lowers-requires : tie.Need-lowers-requires
+lowers-requires c κs = search needs
+
+sub2-if-requires : tie.Need-sub2-if-requires
+sub2-if-requires c κs = search needs
 
 mul-a : tie.Need-mul-a
 mul-a c = search needs
@@ -22,14 +30,8 @@ mul-w c = search needs
 element-copy-out-w : tie.Need-element-copy-out-w
 element-copy-out-w c = search needs
 
-enum-told : tie.Need-enum-told
-enum-told c = search needs
-
-store-word-requires : tie.Need-store-word-requires
-store-word-requires c κs = search needs
-
-enum-told-2 : tie.Need-enum-told-2
-enum-told-2 c = search needs
+stores-byte-requires : tie.Need-stores-byte-requires
+stores-byte-requires c κs = search needs
 
 low-requires : tie.Need-low-requires
 low-requires c κs = search needs
@@ -37,53 +39,20 @@ low-requires c κs = search needs
 store-byte-requires : tie.Need-store-byte-requires
 store-byte-requires c κs = search needs
 
-enum-told-3 : tie.Need-enum-told-3
-enum-told-3 c = search needs
-
-minus-requires : tie.Need-minus-requires
-minus-requires c κs = search needs
-
-mul-regs : tie.Need-mul-regs
-mul-regs c = search needs
-
-element-write-regs : tie.Need-element-write-regs
-element-write-regs c = search needs
-
-mul-lower : tie.Need-mul-lower
-mul-lower c = search needs
-
-element-copy-out-lower : tie.Need-element-copy-out-lower
-element-copy-out-lower c = search needs
-
-mul-x : tie.Need-mul-x
-mul-x c = search needs
-
-element-copy-out-x : tie.Need-element-copy-out-x
-element-copy-out-x c = search needs
-
-store-word-requires-2 : tie.Need-store-word-requires-2
-store-word-requires-2 c κs = search needs
-
 same-length : tie.Need-same-length
 same-length c = search needs
 
 returns : tie.Need-returns
-unfolding stored
-returns c = (c .before .before .store-word .ensures .0 _ ∙ rw (c .before .before .before .before .enum-told .given .1), c .before .before .store-word .ensures .1)
+returns c = (c .before .before .store-byte .ensures .0 _ ∙ byte-stores (now (c .before .before .before .before .before .before .before .before .before .before .before .before .before .args .regs)) _ (c .before .before .before .before .before .before .before .before .before .before .before .before .before .args .v) (now (c .before .before .before .before .before .before .before .before .before .before .before .before .before .args .ram)) (c .before .before .before .before .before .before .before .before .before .before .before .before .before .args .operands / 16) (c .before .before .before .before .before .before .before .before .before .before .before .before .before .args .operands % 16) _ _ _ (c .before .before .before .before .before .before .before .before .before .before .lowers .ensures) (c .before .before .before .before .before .before .before .before .before .sub2-if .ensures) (c .before .before .before .before .before .before .stores-byte .ensures) (c .before .before .before .before .before .if1 .taken) _ (c .before .before .before .low .ensures), c .before .before .store-byte .ensures .1)
+
+store-word-requires : tie.Need-store-word-requires
+store-word-requires c κs = search needs
 
 same-length-2 : tie.Need-same-length-2
 same-length-2 c = search needs
 
 returns-2 : tie.Need-returns-2
-unfolding stored
-returns-2 c = (c .before .before .store-byte .ensures .0 _ ∙ rw (c .before .before .before .low .ensures, c .before .before .before .before .before .enum-told2 .given .1), c .before .before .store-byte .ensures .1)
-
-same-length-3 : tie.Need-same-length-3
-same-length-3 c = search needs
-
-returns-3 : tie.Need-returns-3
-unfolding stored
-returns-3 c = (c .before .before .store-word2 .ensures .0 _ ∙ rw (c .before .before .before .before .before .before .minus .ensures, c .before .before .before .before .before .before .before .enum-told3 .given .1), c .before .before .store-word2 .ensures .1)
+returns-2 c = (c .before .before .store-word .ensures .0 _ ∙ word-stores (now (c .before .before .before .before .before .before .before .before .before .before .before .before .args .regs)) _ (c .before .before .before .before .before .before .before .before .before .before .before .before .args .v) (now (c .before .before .before .before .before .before .before .before .before .before .before .before .args .ram)) (c .before .before .before .before .before .before .before .before .before .before .before .before .args .operands / 16) (c .before .before .before .before .before .before .before .before .before .before .before .before .args .operands % 16) _ _ _ (c .before .before .before .before .before .before .before .before .before .lowers .ensures) (c .before .before .before .before .before .before .before .before .sub2-if .ensures) (c .before .before .before .before .before .stores-byte .ensures) (c .before .before .before .before .if1 .left), c .before .before .store-word .ensures .1)
 
 pub store-spec : {M : Type 1} → statement M
 store-spec =
@@ -91,27 +60,17 @@ store-spec =
     (tie.spec
     cast-d
     cast-s
+    lowers-requires
+    sub2-if-requires
     mul-a
     element-copy-out-a
     mul-w
     element-copy-out-w
-    enum-told
-    store-word-requires
-    enum-told-2
+    stores-byte-requires
     low-requires
     store-byte-requires
-    enum-told-3
-    minus-requires
-    mul-regs
-    element-write-regs
-    mul-lower
-    element-copy-out-lower
-    mul-x
-    element-copy-out-x
-    store-word-requires-2
     same-length
     returns
+    store-word-requires
     same-length-2
-    returns-2
-    same-length-3
-    returns-3)
+    returns-2)
