@@ -8,12 +8,7 @@ ghost use mathlib.Core.List.{_++_};
 ghost use lib.ListN.{getD};
 ghost use Rattle.isa.specs.Names.{bytes};
 ghost use Rattle.isa.specs.Opcode.{meaning, plain, reason2, conditionName, opcodeNamed};
-ghost use Rattle.isa.specs.Table.{alus, compares, moves, loads, stores, operationOf, pack, TellsAll};
-ghost use Rattle.alu.specs.declared.AluOp.the-variants.{Xor};
-ghost use Rattle.alu.specs.declared.CompareOp.the-variants.{Cmps};
-ghost use Rattle.isa.specs.declared.opcode.MoveOp.the-variants.{Reti};
-ghost use Rattle.isa.specs.declared.opcode.LoadOp.the-variants.{LdisIf};
-ghost use Rattle.isa.specs.declared.opcode.StoreOp.the-variants.{Ddsto};
+ghost use Rattle.isa.specs.Table.{pack, TellsAll};
 
 pub enum MoveOp {
     Csrr,
@@ -318,86 +313,6 @@ pub fn table() -> [u64; 256]
     ensures { λ r. ⌜ TellsAll r ⌝ }
 {
     TABLE
-}
-
-fn alu_op(place: u8) -> AluOp
-    ensures { λ r. ⌜ r ≡ getD alus place Xor ⌝ }
-{
-    match place {
-        0 => AluOp::Add,
-        1 => AluOp::And,
-        2 => AluOp::Dec1,
-        3 => AluOp::Dec2,
-        4 => AluOp::Inc1,
-        5 => AluOp::Inc2,
-        6 => AluOp::Not,
-        7 => AluOp::Or,
-        8 => AluOp::Rev,
-        9 => AluOp::Shl,
-        10 => AluOp::Shr,
-        11 => AluOp::Shra,
-        12 => AluOp::Sub,
-        _ => AluOp::Xor,
-    }
-}
-
-fn compare_op(place: u8) -> CompareOp
-    ensures { λ r. ⌜ r ≡ getD compares place Cmps ⌝ }
-{
-    match place {
-        0 => CompareOp::Cmpu,
-        _ => CompareOp::Cmps,
-    }
-}
-
-fn move_op(place: u8) -> MoveOp
-    ensures { λ r. ⌜ r ≡ getD moves place Reti ⌝ }
-{
-    match place {
-        0 => MoveOp::Csrr,
-        1 => MoveOp::Csrw,
-        2 => MoveOp::Exch,
-        3 => MoveOp::Mv,
-        4 => MoveOp::MvIf,
-        _ => MoveOp::Reti,
-    }
-}
-
-fn load_op(place: u8) -> LoadOp
-    ensures { λ r. ⌜ r ≡ getD loads place LdisIf ⌝ }
-{
-    match place {
-        0 => LoadOp::Ld,
-        1 => LoadOp::Ldb,
-        2 => LoadOp::Ldis,
-        3 => LoadOp::LdIf,
-        _ => LoadOp::LdisIf,
-    }
-}
-
-fn store_op(place: u8) -> StoreOp
-    ensures { λ r. ⌜ r ≡ getD stores place Ddsto ⌝ }
-{
-    match place {
-        0 => StoreOp::Sto,
-        1 => StoreOp::Stob,
-        _ => StoreOp::Ddsto,
-    }
-}
-
-// The operation that an entry of the table tells.
-pub fn operation(entry: u64) -> Op
-    ensures { λ r. ⌜ r ≡ operationOf entry ⌝ }
-{
-    let place = (entry / 0x100_0000_0000_0000 % 16) as u8;
-    match entry / 0x1000_0000_0000_0000 {
-        1 => Op::Alu(alu_op(place)),
-        2 => Op::Compare(compare_op(place)),
-        3 => Op::Move(move_op(place)),
-        4 => Op::Load(load_op(place)),
-        5 => Op::Store(store_op(place)),
-        _ => Op::Illegal(place),
-    }
 }
 
 // The operation of an opcode below 30.
