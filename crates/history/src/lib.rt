@@ -5,7 +5,7 @@ ghost use mathlib.Core.Path.{_≡_};
 ghost use Prim.Native.Nat.{_+_, _*_, _/_, _≤_, _<_};
 ghost use lib.ListN.{length};
 ghost use lib.Seq.{paste};
-ghost use Rattle.history.specs.Ring.{ringOf, pushed, slotBefore, slotAfter, slots, slotWords, readable};
+ghost use Rattle.history.specs.Ring.{ringOf, pushed, slotBefore, slotAfter, slots, slotWords, readable, amended};
 
 // Next slot and records held.
 pub struct Place {
@@ -55,6 +55,22 @@ pub fn push(journal: &mut [u16], place: Place, words: [u16; 32]) -> Place
         next: after,
         held: n,
     }
+}
+
+// Three words of a slot, from one of its words on; nothing where the slot does not have all three.
+pub fn amend(journal: &mut [u16], slot: usize, from: usize, x: u16, y: u16, z: u16)
+    ensures { λ _. ⌜ now (journal .exit) ≡ amended (now (journal .entry)) slot from x y z ⌝ }
+{
+    if journal.len() / 32 <= slot {
+        return;
+    }
+    if 30 <= from {
+        return;
+    }
+    let at = slot * 32 + from;
+    journal[at] = x;
+    journal[at + 1] = y;
+    journal[at + 2] = z;
 }
 
 // The slot of the newest record.
