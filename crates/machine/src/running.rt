@@ -49,11 +49,12 @@ fn advance(c: Cpu, place: Place, ram: &mut [u8], journal: &mut [u16], budget: u1
         if steps == budget {
             break told(steps, bus, Stop::Budget);
         }
-        let g = regs;
-        let k = csrs;
-        let q = step::step(&mut regs, &mut csrs, ram, v, halted);
-        let words = record::encode(g, k, v, halted, q.count, q.first, q.old);
+        // The record of the state before the step; what the step writes goes in after it.
+        let words = record::encode(regs, csrs, v, halted, 0, 0, 0);
+        let slot = at.next;
         at = history::push(journal, at, words);
+        let q = step::step(&mut regs, &mut csrs, ram, v, halted);
+        history::amend(journal, slot, 25, q.count as u16, q.first, q.old);
         v = q.devices;
         halted = q.halted;
         bus = bus + q.bus as u32;
