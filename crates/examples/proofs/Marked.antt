@@ -7,10 +7,10 @@ use Rattle.bus.specs.State.{reset}
 use Rattle.bus.specs.Addresses.{deviceByte, byteAt, wordAt, deviceAfter, putByte, putWord}
 use Rattle.instructions.specs.Instructions.{computed, compared, moved, loaded, stored}
 use Rattle.cpu.specs.Exceptions.{due, entered, illegal, settledCsrs, settledHalt}
-use Rattle.cpu.specs.Step.{executed, runs, stepBy}
+use Rattle.cpu.specs.Step.{executed, runs, stepOf}
 use Rattle.text.specs.Listing.{textOf}
 use Rattle.examples.specs.Table.{table, AllShown}
 
 pub examples : AllShown
-unfolding table stepBy runs executed meaning due entered illegal settledCsrs settledHalt computed compared moved loaded stored byteAt deviceByte wordAt deviceAfter putByte putWord reset addOf subOf logicOf shraOf aluOf compareOf fromBits textOf
+unfolding table stepOf runs executed meaning due entered illegal settledCsrs settledHalt computed compared moved loaded stored byteAt deviceByte wordAt deviceAfter putByte putWord reset addOf subOf logicOf shraOf aluOf compareOf fromBits textOf
 examples = refl

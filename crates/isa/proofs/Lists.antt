@@ -4,7 +4,7 @@ use mathlib.Core.List.{List, [], _∷_, map}
 use Prim.Native.Nat.{ℕ, zero, suc, _+_, _-_, _<_, _≤_}
 use native.Mathlib.Omega.{arith}
 use native.Mathlib.Nat.{add-zero, zero-add, add-suc, suc-add, le-of-suc-le-suc, not-suc-le-zero}
-use lib.ListN.{getD, length, List·getD-map}
+use lib.ListN.{getD, length}
 use Rattle.isa.specs.Opcode.{images}
 
 images-at : {A : Type 0} (d : A) (f : ℕ → A) (i n k : ℕ) → k < n → getD (images f i n) k d ≡ f (i + k)
@@ -19,11 +19,6 @@ map-images g f i (suc n) = ap (λ (l : List _). g (f i) ∷ l) (map-images g f (
 pub map-map : {A B C : Type 0} (g : B → C) (f : A → B) (l : List A) → map g (map f l) ≡ map (λ x. g (f x)) l
 map-map g f [] = refl
 map-map g f (x ∷ l) = ap (λ (t : List _). g (f x) ∷ t) (map-map g f l)
-
--- A table whose entries, read by g, are f at each place: one comparison of two lists gives the rule at every place.
-pub tabled : {A B : Type 0} (d : A) (g : A → B) (f : ℕ → B) (xs : List A) (n : ℕ) → map g xs ≡ images f 0 n → (k : ℕ) → k < n → g (getD xs k d) ≡ f k
-tabled {B = B} d g f xs n e k h =
-    sym (List·getD-map g xs k d) ∙ ap (λ (l : List B). getD l k (g d)) e ∙ images-at (g d) f 0 n k h ∙ ap f (zero-add k)
 
 -- two functions that agree at each number below n
 pub agree : {A : Type 0} (d : A) (f g : ℕ → A) (n : ℕ) → images f 0 n ≡ images g 0 n → (k : ℕ) → k < n → f k ≡ g k

@@ -9,14 +9,9 @@ use lib.Dec.{leb}
 use native.Mathlib.Omega.{arith}
 use borrow.Author.Tests.{leb-true}
 use Rattle.isa.specs.Opcode.{meaning, images, mnemonics, reasonOf}
-use Rattle.isa.specs.Table.{pack, keyOf, nameOf, seekIn, HoldsNames, operationOf, Told, told, toldOf, TellsAll}
-use Rattle.isa.proofs.Lists.{tabled, ranged, map-map, map-images}
+use Rattle.isa.specs.Table.{pack, keyOf, nameOf, seekIn, HoldsNames, Told, told, toldOf, TellsAll}
+use Rattle.isa.proofs.Lists.{ranged, map-map, map-images}
 use Rattle.isa.proofs.Keyed.{Bytes, allTidy, seek-place}
-
--- the rule at one opcode
-pub tells : (table : List ℕ) → TellsAll table → (opcode : ℕ) → opcode < 256 → told (getD table opcode 0) ≡ toldOf opcode
-unfolding TellsAll
-tells table t opcode h = tabled 0 told toldOf table 256 t opcode h
 
 -- the names of the table are the mnemonics
 tells-names : (table : List ℕ) → TellsAll table → HoldsNames table mnemonics
@@ -38,10 +33,6 @@ pub held : (entries : List ℕ) (names : List (List ℕ)) → HoldsNames entries
 unfolding HoldsNames
 held entries names e k =
     sym (List·getD-map nameOf entries k 0) ∙ ap (λ (l : List ℕ). getD l k 0) e ∙ List·getD-map pack names k []
-
--- the operation that the table tells
-pub tells-op : (table : List ℕ) → TellsAll table → (opcode : ℕ) → opcode < 256 → operationOf (getD table opcode 0) ≡ meaning opcode .op
-tells-op table t opcode h = ap (λ (x : Told). x .op) (tells table t opcode h)
 
 -- a reason is 1 or 2, and 0 stands for a legal opcode
 pub reason-small : (opcode : ℕ) → opcode < 256 → reasonOf (meaning opcode .op) ≤ 2

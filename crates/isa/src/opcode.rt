@@ -308,8 +308,8 @@ const TABLE: [u64; 256] = [
     0x02_00000000000000,
 ];
 
-// The table, for a caller that decodes many times and keeps it.
-pub fn table() -> [u64; 256]
+// The table, to be sought through by name.
+fn table() -> [u64; 256]
     ensures { λ r. ⌜ TellsAll r ⌝ }
 {
     TABLE
