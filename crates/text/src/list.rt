@@ -5,6 +5,7 @@ use isa::register::Reg;
 ghost use mathlib.Core.Path.{_≡_};
 ghost use mathlib.Core.List.{_∷_, _++_};
 ghost use Prim.Native.Nat.{_+_, _≤_, _<_};
+ghost use lib.Dec.{ltb};
 ghost use lib.ListN.{length};
 ghost use lib.Seq.{sets};
 ghost use Rattle.isa.specs.Table.{pack};
@@ -82,13 +83,24 @@ fn width(key: u64) -> usize
     n
 }
 
+// No text is longer than 16 bytes, so that with room for these nothing is counted.
+fn is_short(room: usize, m: u64, d: u64, s: u64) -> bool
+    requires { ⌜ length (keyText m ++ keyText d ++ keyText s) ≤ 16 ⌝ }
+    ensures { λ r. ⌜ r ≡ ltb room (length (keyText m) + length (keyText d) + length (keyText s)) ⌝ }
+{
+    if 16 <= room {
+        return false;
+    }
+    room < width(m) + width(d) + width(s)
+}
+
 // The bytes of three keys, one after the other, if there is room for all.
 fn put3(out: &mut [u8], m: u64, d: u64, s: u64) -> Listed
+    requires { ⌜ length (keyText m ++ keyText d ++ keyText s) ≤ 16 ⌝ }
     ensures { λ r. ⌜ listedAs r ≡ fitSays (keyText m ++ keyText d ++ keyText s) (length (now (out .entry))) ⌝ }
     ensures { λ r. ⌜ now (out .exit) ≡ fitLeaves (keyText m ++ keyText d ++ keyText s) (now (out .entry)) ⌝ }
 {
-    let n = width(m) + width(d) + width(s);
-    if out.len() < n {
+    if is_short(out.len(), m, d, s) {
         return Listed::NoRoom;
     }
     let a = put(out, 0, m);

@@ -4,6 +4,7 @@ use Prim.Native.Nat.{_%_}
 use borrow.Author.Tests.{lt-ltb, le-ltb, lt-leb, le-leb, eq-eqb, ne-eqb}
 use Rattle.text.specs.Listing.{listSays, listLeaves}
 use Rattle.text.proofs.KeyTexts.{reason2-key, word-keys}
+use Rattle.text.proofs.Returning.{sixteen}
 use borrow.Author.Needs.{needs}
 use Rattle.text.proofs.list.list.Statement.{statement}
 use Rattle.text.proofs.list.list.Tie as tie
@@ -34,7 +35,9 @@ second-key-requires : tie.Need-second-key-requires
 second-key-requires c κs = omega arith
 
 put3-requires : tie.Need-put3-requires
-put3-requires c κs = search needs
+put3-requires c κs =
+    let w = c .before .before .before .before .before .before .args .word in
+    rw (word-keys w _ _ _ (omega arith) (c .before .before .before .before .mnemonic .ensures) (c .before .first-key .ensures) (c .second-key .ensures)) (sixteen w (omega arith))
 
 same-length : tie.Need-same-length
 same-length c = search needs

@@ -1,59 +1,47 @@
-use mathlib.Core.Path.{_≡_, refl, sym, ap, _∙_}
+use mathlib.Core.Path.{_≡_, sym, ap, _∙_}
 use mathlib.Core.List.{_++_}
-use Prim.Native.Nat.{ℕ, _+_, _≤_, _<_}
+use Prim.Native.Nat.{_+_, _≤_, _<_}
 use native.Mathlib.Omega.{arith}
 use denote.Ref.{now}
-use borrow.Author.Tests.{le-ltb, lt-ltb}
+use borrow.Author.Tests.{le-ltb, lt-ltb, ltb-true, ltb-false}
 use lib.ListN.{length}
 use Rattle.text.specs.Answer.{accepted}
 use Rattle.text.specs.Places.{keyText}
-use Rattle.text.proofs.KeyTexts.{key-short, three, three-length}
+use Rattle.text.proofs.KeyTexts.{three, three-length}
 use borrow.Author.Needs.{needs}
 use Rattle.text.proofs.list.put3.Statement.{statement}
 use Rattle.text.proofs.list.put3.Tie as tie
 
-width-requires : tie.Need-width-requires
-width-requires c κs = search needs
-
-width-requires-2 : tie.Need-width-requires-2
-width-requires-2 c κs = search needs
-
-add-n : tie.Need-add-n
-add-n c = omega (arith, key-short (c .before .before .before .args .m), key-short (c .before .before .before .args .d))
-
-width-requires-3 : tie.Need-width-requires-3
-width-requires-3 c κs = search needs
-
-add-n-2 : tie.Need-add-n-2
-add-n-2 c = omega (arith, key-short (c .before .before .before .before .args .m), key-short (c .before .before .before .before .args .d), key-short (c .before .before .before .before .args .s))
+is-short-requires : tie.Need-is-short-requires
+is-short-requires c κs = c .before .pre
 
 returns : tie.Need-returns
 returns c =
-    let a = c .before .before .before .before .before .args in
+    let a = c .before .before .before .args in
     let l = three-length (keyText (a .m)) (keyText (a .d)) (keyText (a .s)) in
-    let h : length (now (a .out)) < length (keyText (a .m) ++ keyText (a .d) ++ keyText (a .s)) = omega arith in
+    let h : length (now (a .out)) < length (keyText (a .m) ++ keyText (a .d) ++ keyText (a .s)) = omega (arith, ltb-true (length (now (c .before .before .before .args .out))) (length (keyText (c .before .before .before .args .m)) + length (keyText (c .before .before .before .args .d)) + length (keyText (c .before .before .before .args .s))) (sym (c .before .is-short .ensures) ∙ c .if1 .taken)) in
     (rw (lt-ltb _ _ h), rw (lt-ltb _ _ h))
 
 put-requires : tie.Need-put-requires
-put-requires c κs = search needs
+put-requires c κs = omega (arith, ltb-false (length (now (c .before .before .before .before .args .out))) (length (keyText (c .before .before .before .before .args .m)) + length (keyText (c .before .before .before .before .args .d)) + length (keyText (c .before .before .before .before .args .s))) (sym (c .before .before .is-short .ensures) ∙ c .before .if1 .left))
 
 put-requires-2 : tie.Need-put-requires-2
-put-requires-2 c κs = search needs
+put-requires-2 c κs = omega (arith, ltb-false (length (now (c .before .before .before .before .before .before .before .before .args .out))) (length (keyText (c .before .before .before .before .before .before .before .before .args .m)) + length (keyText (c .before .before .before .before .before .before .before .before .args .d)) + length (keyText (c .before .before .before .before .before .before .before .before .args .s))) (sym (c .before .before .before .before .before .before .is-short .ensures) ∙ c .before .before .before .before .before .if1 .left), c .before .before .before .put .ensures .0, c .before .before .before .put .kept .0)
 
 put-requires-3 : tie.Need-put-requires-3
-put-requires-3 c κs = search needs
+put-requires-3 c κs = omega (arith, ltb-false (length (now (c .before .before .before .before .before .before .before .before .before .before .before .before .args .out))) (length (keyText (c .before .before .before .before .before .before .before .before .before .before .before .before .args .m)) + length (keyText (c .before .before .before .before .before .before .before .before .before .before .before .before .args .d)) + length (keyText (c .before .before .before .before .before .before .before .before .before .before .before .before .args .s))) (sym (c .before .before .before .before .before .before .before .before .before .before .is-short .ensures) ∙ c .before .before .before .before .before .before .before .before .before .if1 .left), c .before .before .before .before .before .before .before .put .ensures .0, c .before .before .before .put2 .ensures .0, c .before .before .before .before .before .before .before .put .kept .0, c .before .before .before .put2 .kept .0)
 
 same-length : tie.Need-same-length
 same-length c = search needs
 
 returns-2 : tie.Need-returns-2
 returns-2 c =
-    let a = c .before .before .before .before .before .before .before .before .before .before .before .before .before .before .before .before .before .args in
+    let a = c .before .before .before .before .before .before .before .before .before .before .before .before .before .before .before .args in
     let p = c .before .before .before .before .before .before .before .before .before .before .put in
     let q = c .before .before .before .before .before .before .put2 in
     let r = c .before .before .put3 in
     let l = three-length (keyText (a .m)) (keyText (a .d)) (keyText (a .s)) in
-    let h : length (keyText (a .m) ++ keyText (a .d) ++ keyText (a .s)) ≤ length (now (a .out)) = omega (arith, c .before .before .before .before .before .before .before .before .before .before .before .before) in
+    let h : length (keyText (a .m) ++ keyText (a .d) ++ keyText (a .s)) ≤ length (now (a .out)) = omega (arith, ltb-false (length (now (c .before .before .before .before .before .before .before .before .before .before .before .before .before .before .before .args .out))) (length (keyText (c .before .before .before .before .before .before .before .before .before .before .before .before .before .before .before .args .m)) + length (keyText (c .before .before .before .before .before .before .before .before .before .before .before .before .before .before .before .args .d)) + length (keyText (c .before .before .before .before .before .before .before .before .before .before .before .before .before .before .before .args .s))) (sym (c .before .before .before .before .before .before .before .before .before .before .before .before .before .is-short .ensures) ∙ c .before .before .before .before .before .before .before .before .before .before .before .before .if1 .left)) in
     let v : r .result ≡ length (keyText (a .m) ++ keyText (a .d) ++ keyText (a .s)) = omega (arith, p .ensures .0, q .ensures .0, r .ensures .0) in (
       rw (le-ltb _ _ h) (ap accepted v),
       rw (le-ltb _ _ h, r .ensures .1, q .ensures .1, p .ensures .1)
@@ -64,11 +52,7 @@ pub put3-spec : {M : Type 1} → statement M
 put3-spec =
     tie.close
     (tie.spec
-    width-requires
-    width-requires-2
-    add-n
-    width-requires-3
-    add-n-2
+    is-short-requires
     returns
     put-requires
     put-requires-2
