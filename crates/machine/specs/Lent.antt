@@ -1,9 +1,11 @@
 -- How the answers of private functions stand for the rules' own.
 use Prim.Native.Nat.{ℕ}
+use mathlib.Core.Bool.{cond}
 use mathlib.Core.List.{List}
+use lib.Dec.{eqb}
 use Rattle.bus.specs.declared.state.Cpu.{Cpu}
 use Rattle.history.specs.Trace.{Answer as AnswerOf, answers}
-use Rattle.history.specs.Ring.{Ring, ringOf}
+use Rattle.history.specs.Ring.{Ring, ringOf, amended}
 use Rattle.history.specs.declared.Place.{Place}
 use Rattle.input.specs.Inputs.{box}
 use Rattle.machine.specs.Calls.{W, causeIs}
@@ -35,3 +37,7 @@ runTold s b t = record { steps = s; bus = b; stop = t }
 
 abbrev pub ranAs : Ended → List ℕ → List ℕ → AnswerOf Cpu Ring
 ranAs r ram ws = answers 0 (r .run .steps) (r .run .bus) (causeIs (r .run .stop)) (standing (r .cpu) (r .place) ram ws)
+
+-- words 25 to 27 of a record, after the step; they are 0 before it
+abbrev pub noted : List ℕ → ℕ → ℕ → ℕ → ℕ → List ℕ
+noted ws k n a old = cond (eqb n 0) ws (amended ws k 25 n a old)

@@ -16,7 +16,7 @@ ghost use Rattle.history.specs.Ring.{ring};
 ghost use Rattle.input.specs.Record.{recordOf, decoded};
 ghost use Rattle.input.specs.Inputs.{Input, machine};
 ghost use Rattle.machine.specs.Calls.{Keeps};
-ghost use Rattle.machine.specs.Lent.{standing, runTold, ranAs, machineAt, placeIn};
+ghost use Rattle.machine.specs.Lent.{noted, standing, runTold, ranAs, machineAt, placeIn};
 
 // What a run leaves.
 struct Ended {
@@ -29,6 +29,16 @@ fn told(steps: u16, bus: u32, stop: Stop) -> Run
     ensures { λ r. ⌜ r ≡ runTold steps bus stop ⌝ }
 {
     Run { steps, bus, stop }
+}
+
+// What a step wrote, put into the record that was pushed before it; a step that wrote nothing leaves the zeros there.
+fn note(journal: &mut [u16], slot: usize, count: u8, first: u16, old: u16)
+    ensures { λ _. ⌜ now (journal .exit) ≡ noted (now (journal .entry)) slot count first old ⌝ }
+{
+    if count == 0 {
+        return;
+    }
+    history::amend(journal, slot, 25, count as u16, first, old);
 }
 
 // Steps until the machine is halted or the budget used up: the one place that steps.
@@ -54,7 +64,7 @@ fn advance(c: Cpu, place: Place, ram: &mut [u8], journal: &mut [u16], budget: u1
         let slot = at.next;
         at = history::push(journal, at, words);
         let q = step::step(&mut regs, &mut csrs, ram, v, halted);
-        history::amend(journal, slot, 25, q.count as u16, q.first, q.old);
+        note(journal, slot, q.count, q.first, q.old);
         v = q.devices;
         halted = q.halted;
         bus = bus + q.bus as u32;

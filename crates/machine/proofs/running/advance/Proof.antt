@@ -34,27 +34,24 @@ push-requires c κs = search needs
 step-requires : tie.Need-step-requires Inv-loop μ-loop
 step-requires c κs = search needs
 
-cast-amend : tie.Need-cast-amend Inv-loop μ-loop
-cast-amend c = search needs
-
-amend-requires : tie.Need-amend-requires Inv-loop μ-loop
-amend-requires c κs = search needs
+note-requires : tie.Need-note-requires Inv-loop μ-loop
+note-requires c κs = search needs
 
 cast-bus : tie.Need-cast-bus Inv-loop μ-loop
 cast-bus c = search needs
 
 add-bus : tie.Need-add-bus Inv-loop μ-loop
-add-bus c = let l = c .before .before .before .before .before .before .before .before .before .before .before .before .before .before .before .before .before .before .before .before .loop in omega (arith, l .inv .0 .within, l .inv .0 .small, c .before .before .before .before .before .before .before .before .before .step .ok, c .before .before .before .before .before .before .before .before .before .before .before .before .before .before .before .before .before .before .before .before .before .before .before .before .before .before .fits .budget)
+add-bus c = let l = c .before .before .before .before .before .before .before .before .before .before .before .before .before .before .before .before .before .before .before .loop in omega (arith, l .inv .0 .within, l .inv .0 .small, c .before .before .before .before .before .before .before .before .step .ok, c .before .before .before .before .before .before .before .before .before .before .before .before .before .before .before .before .before .before .before .before .before .before .before .before .before .fits .budget)
 
 add-steps : tie.Need-add-steps Inv-loop μ-loop
-add-steps c = let l = c .before .before .before .before .before .before .before .before .before .before .before .before .before .before .before .before .before .before .before .before .loop in omega (arith, l .inv .0 .within, c .before .before .before .before .before .before .before .before .before .before .before .before .before .before .before .before .before .before .if2 .left, c .before .before .before .before .before .before .before .before .before .before .before .before .before .before .before .before .before .before .before .before .before .before .before .before .before .before .fits .budget)
+add-steps c = let l = c .before .before .before .before .before .before .before .before .before .before .before .before .before .before .before .before .before .before .before .loop in omega (arith, l .inv .0 .within, c .before .before .before .before .before .before .before .before .before .before .before .before .before .before .before .before .before .if2 .left, c .before .before .before .before .before .before .before .before .before .before .before .before .before .before .before .before .before .before .before .before .before .before .before .before .before .fits .budget)
 
 loop-less : tie.Need-loop-less Inv-loop μ-loop
-loop-less c = let i = c .before .before .before .before .before .before .before .before .before .before .before .before .before .before .before .before .before .before .before .before .loop .inv .0 in let w = i .within in let s = i .small in omega (arith, c .before .before .before .before .before .before .before .before .before .before .before .before .before .before .before .before .before .before .if2 .left)
+loop-less c = let i = c .before .before .before .before .before .before .before .before .before .before .before .before .before .before .before .before .before .before .before .loop .inv .0 in let w = i .within in let s = i .small in omega (arith, c .before .before .before .before .before .before .before .before .before .before .before .before .before .before .before .before .before .if2 .left)
 
 loop-again : tie.Need-loop-again Inv-loop μ-loop
-loop-again c = let l = c .before .before .before .before .before .before .before .before .before .before .before .before .before .before .before .before .before .before .before .before .loop in let q = c .before .before .before .before .before .before .before .before .before .step in let p = c .before .before .before .before .before .before .before .before .before .before .before .before .before .before .before .push in let a = c .before .before .before .before .amend in
-    (turn (l .regs) (l .csrs) (l .v) (l .halted) (l .ram) (l .journal) (l .at .next) (l .at .held) _ _ _ _ (q .result) _ _ _ _ _ _ _ _ (c .before .before .before .before .before .before .before .before .before .before .before .before .before .before .before .before .before .before .before .if1 .left) (c .before .before .before .before .before .before .before .before .before .before .before .before .before .before .before .before .before .before .if2 .left) (omega (arith, q .ok)) (q .ensures) (c .before .before .before .before .before .before .before .before .before .before .before .before .before .before .before .before .before .encode .ensures) (p .ensures) (a .ensures) (l .inv .0), q .kept .1 .1 .0 ∙ l .inv .1, a .kept .0 ∙ p .kept .0 ∙ l .inv .2)
+loop-again c = let l = c .before .before .before .before .before .before .before .before .before .before .before .before .before .before .before .before .before .before .before .loop in let q = c .before .before .before .before .before .before .before .before .step in let p = c .before .before .before .before .before .before .before .before .before .before .before .before .before .before .push in let a = c .before .before .before .before .note in
+    (turn (l .regs) (l .csrs) (l .v) (l .halted) (l .ram) (l .journal) (l .at .next) (l .at .held) _ _ _ _ (q .result) _ _ _ _ _ _ _ _ (c .before .before .before .before .before .before .before .before .before .before .before .before .before .before .before .before .before .before .if1 .left) (c .before .before .before .before .before .before .before .before .before .before .before .before .before .before .before .before .before .if2 .left) (omega (arith, q .ok)) (q .ensures) (c .before .before .before .before .before .before .before .before .before .before .before .before .before .before .before .before .encode .ensures) (p .ensures) (a .ensures) (l .inv .0), q .kept .1 .1 .0 ∙ l .inv .1, a .kept .0 ∙ p .kept .0 ∙ l .inv .2)
 
 same-length : tie.Need-same-length Inv-loop μ-loop
 same-length c = search needs
@@ -86,8 +83,7 @@ advance-spec =
     encode-requires
     push-requires
     step-requires
-    cast-amend
-    amend-requires
+    note-requires
     cast-bus
     add-bus
     add-steps
