@@ -1,10 +1,10 @@
 // What a call answers and leaves, and the lent bytes and words, absorbed one by one.
+use advance::Run;
+use advance::Stop;
 use bus::state::Devices;
 use machine::state::Answer;
 use machine::state::Machine;
 use machine::state::Refusal;
-use machine::state::Run;
-use machine::state::Stop;
 use word::choice;
 use word::halves;
 

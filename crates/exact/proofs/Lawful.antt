@@ -26,7 +26,8 @@ use Rattle.history.proofs.Exact.{Lawful, Ruly, Keeping}
 use Rattle.history.proofs.RingLaws.{keeping}
 use Rattle.input.specs.Record.{recordOf, decoded}
 use Rattle.input.specs.Inputs.{Input, step, tick, receive, sent, setRegister, poke, resets, signalled, registerSet, nextOf, machine}
-use Rattle.machine.specs.Calls.{W, checked, checkOf}
+use Rattle.advance.specs.Standing.{W}
+use Rattle.machine.specs.Calls.{checked, checkOf}
 use Rattle.exact.specs.Demand3.{Fits}
 use Rattle.exact.proofs.Records.{FineUndo, wide, reads}
 

@@ -11,7 +11,8 @@ use Rattle.history.specs.Ring.{Ring, ringOf, ring, slots}
 use Rattle.history.proofs.Exact.{AllApt, exact}
 use Rattle.input.specs.Record.{recordOf, decoded}
 use Rattle.input.specs.Inputs.{Input, step, box, machine}
-use Rattle.machine.specs.Calls.{W, checkOf, worldOf, started}
+use Rattle.advance.specs.Standing.{W}
+use Rattle.machine.specs.Calls.{checkOf, worldOf, started}
 use Rattle.machine.specs.declared.state.Machine.{Machine as MachineT}
 use Rattle.exact.specs.Demand3.{Allowed, Made, answered, Typed, Chain, last, leftBy, Demand3}
 use Rattle.exact.proofs.Records.{FineUndo}

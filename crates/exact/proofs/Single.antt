@@ -1,4 +1,4 @@
--- No second result: a call's promise, and those of the step, the instructions and the bus below it, leave one result, one memory and one journal.
+-- No second result: a call's promise, and those of the run, the step, the instructions and the bus below it, leave one result, one memory and one journal.
 use Prim.Native.Nat.{ℕ, zero, suc}
 use mathlib.Core.Path.{_≡_, refl, _∙_, sym, ap}
 use mathlib.Core.Bool.{cond}
@@ -15,10 +15,12 @@ use Rattle.cpu.specs.declared.step.Done.{Done}
 use Rattle.history.specs.Trace.{Answer as AnswerOf, Cause, no-run, budget, stopped, Call}
 use Rattle.history.specs.Ring.{Ring}
 use Rattle.input.specs.Inputs.{Input}
-use Rattle.machine.specs.Calls.{W, answerOf, worldOf, saidBy}
+use Rattle.advance.specs.Standing.{W, causeIs, ranAs}
+use Rattle.advance.specs.declared.Ended.{Ended}
+use Rattle.advance.specs.declared.Stop.{Stop}
+use Rattle.advance.specs.declared.Stop.the-variants.{Halted, Budget}
+use Rattle.machine.specs.Calls.{answerOf, worldOf, saidBy}
 use Rattle.machine.specs.declared.state.Machine.{Machine as MachineT}
-use Rattle.machine.specs.declared.state.Stop.{Stop}
-use Rattle.machine.specs.declared.state.Stop.the-variants.{Halted, Budget}
 use Rattle.machine.specs.declared.state.Refusal.{Refusal}
 use Rattle.machine.specs.declared.state.Refusal.the-variants as Refusal
 use Rattle.machine.specs.declared.state.Answer.{Answer}
@@ -102,6 +104,34 @@ single c w x y p q =
       sym (ram-back x) ∙ ap (λ (a : AnswerOf Cpu Ring). a .world .box .ram) e ∙ ram-back y,
       sym (words-back x) ∙ ap (λ (a : AnswerOf Cpu Ring). a .world .journal .words) e ∙ words-back y,
     )
+
+-- what a run leaves, read back from what the rules answer
+abbrev stopFrom : Cause → Stop
+stopFrom no-run = Budget
+stopFrom budget = Budget
+stopFrom stopped = Halted
+
+stop-back : (t : Stop) → stopFrom (causeIs t) ≡ t
+stop-back Halted = refl
+stop-back Budget = refl
+
+abbrev endedFrom : AnswerOf Cpu Ring → Stop → Ended
+endedFrom a t =
+    record {
+      cpu = a .world .box .cpu;
+      place = record { next = a .world .journal .next; held = a .world .journal .held };
+      run = record { steps = a .steps; bus = a .bus; stop = t };
+    }
+
+-- for the run: all that it returns, memory and journal
+pub single-run : (r r′ : Ended) (m m′ ws ws′ : List ℕ) → ranAs r m ws ≡ ranAs r′ m′ ws′ → (r ≡ r′) × (m ≡ m′) × (ws ≡ ws′)
+single-run r r′ m m′ ws ws′ e = (
+  ap (endedFrom (ranAs r m ws)) (sym (stop-back (r .run .stop)))
+      ∙ ap (λ (a : AnswerOf Cpu Ring). endedFrom a (stopFrom (a .cause))) e
+      ∙ ap (endedFrom (ranAs r′ m′ ws′)) (stop-back (r′ .run .stop)),
+  ap (λ (a : AnswerOf Cpu Ring). a .world .box .ram) e,
+  ap (λ (a : AnswerOf Cpu Ring). a .world .journal .words) e,
+)
 
 -- for the step: registers, CSRs, memory and all that it returns
 pub single-step : (g g′ k k′ m m′ : List ℕ) (q q′ : Done) → toldAs g k q m ≡ toldAs g′ k′ q′ m′ → (g ≡ g′) × (k ≡ k′) × (m ≡ m′) × (q ≡ q′)

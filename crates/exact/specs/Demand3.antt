@@ -10,7 +10,8 @@ use Rattle.bus.specs.declared.state.Cpu.{Cpu}
 use Rattle.history.specs.Trace.{Answer, Call, give, run, back, Left, leaves, upTo, ruled, backNumber}
 use Rattle.history.specs.Ring.{Ring, slots}
 use Rattle.input.specs.Inputs.{Input, step, tick, receive, sent, setRegister, poke, resets, box, machine}
-use Rattle.machine.specs.Calls.{W, answerOf, worldOf, replied, Keeps, started}
+use Rattle.advance.specs.Standing.{W}
+use Rattle.machine.specs.Calls.{answerOf, worldOf, replied, Keeps, started}
 use Rattle.machine.specs.declared.state.Machine.{Machine}
 use Rattle.machine.specs.declared.state.Reply.{Reply}
 

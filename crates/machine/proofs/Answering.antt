@@ -21,16 +21,15 @@ use Rattle.input.specs.Record.{recordWith, recordOf, undoFrom, sound, decoded, 
 use Rattle.input.specs.Inputs.{Input, step, poke, box, effect, quietly, nextOf, stepsOf, machine}
 use Rattle.input.specs.declared.record.Before.{Before}
 use Rattle.input.proofs.Giving.{pokes}
-use Rattle.machine.specs.Calls.{W, ramFits, journalFits, stateFits, firstOf, checked, checkOf, answerOf, worldOf, numberOf, firstRefusal, replied}
-use Rattle.machine.specs.Lent.{refuse, standing, ranAs}
+use Rattle.advance.specs.Standing.{W, standing, ranAs}
+use Rattle.advance.specs.declared.Ended.{Ended}
+use Rattle.advance.proofs.Turns.{at}
+use Rattle.machine.specs.Calls.{ramFits, journalFits, stateFits, firstOf, checked, checkOf, answerOf, worldOf, numberOf, firstRefusal, replied}
+use Rattle.machine.specs.Lent.{refuse}
 use Rattle.machine.specs.declared.state.Machine.{Machine as MachineT}
 use Rattle.machine.specs.declared.state.Refusal.{Refusal}
 use Rattle.machine.specs.declared.state.Refusal.the-variants as Refusal
 use Rattle.machine.specs.declared.state.Reply.{Reply}
-use Rattle.machine.specs.declared.running.Ended.{Ended}
-
-abbrev pub at : Box Cpu → Ring → W
-at b j = record { box = b; journal = j }
 
 abbrev pub plainly : Call Input → W → AnswerOf Cpu Ring
 plainly = plain machine (ring recordOf decoded)

@@ -7,21 +7,17 @@ use lib.Dec.{leb, ltb, eqb}
 use lib.ListN.{length}
 use Rattle.bus.specs.State.{word, reset}
 use Rattle.bus.specs.declared.state.Cpu.{Cpu}
-use Rattle.history.specs.Trace.{World, Cause, no-run, budget, stopped, Answer as AnswerOf, answers, Call, answer}
+use Rattle.history.specs.Trace.{no-run, Answer as AnswerOf, answers, Call, answer}
 use Rattle.history.specs.Ring.{Ring, ringOf, ring}
 use Rattle.input.specs.Record.{recordOf, decoded}
 use Rattle.input.specs.Inputs.{Input, box, machine}
+use Rattle.advance.specs.Standing.{W, causeIs}
 use Rattle.machine.specs.declared.state.Machine.{Machine as MachineT}
-use Rattle.machine.specs.declared.state.Stop.{Stop}
-use Rattle.machine.specs.declared.state.Stop.the-variants.{Halted, Budget}
 use Rattle.machine.specs.declared.state.Refusal.{Refusal}
 use Rattle.machine.specs.declared.state.Refusal.the-variants as Refusal
 use Rattle.machine.specs.declared.state.Answer.{Answer}
 use Rattle.machine.specs.declared.state.Answer.the-variants.{Accepted, Stepped, Ran, Refused}
 use Rattle.machine.specs.declared.state.Reply.{Reply}
-
-abbrev pub W : Type 0
-W = World Cpu Ring
 
 -- 1: "RAM longer than 65,504"
 abbrev pub ramFits : ℕ → Bool
@@ -68,10 +64,6 @@ numberOf Refusal.BadRecord = 9
 -- the refusal of the first check that fails, by its number
 abbrev pub firstRefusal : ℕ → Refusal
 firstRefusal n = cond (eqb n 1) Refusal.RamTooLong (cond (eqb n 2) Refusal.BadJournal Refusal.BadState)
-
-abbrev pub causeIs : Stop → Cause
-causeIs Halted = stopped
-causeIs Budget = budget
 
 -- the paper's number and values for each case of an answer
 abbrev pub saidBy : Answer → W → AnswerOf Cpu Ring

@@ -1,4 +1,5 @@
 // The machine by value, and what a call answers.
+use advance::Run;
 use bus::state::Cpu;
 ghost use mathlib.Core.Path.{_≡_};
 ghost use Rattle.machine.specs.Calls.{numberOf, started};
@@ -19,18 +20,6 @@ pub fn start() -> Machine
         next: 0,
         held: 0,
     }
-}
-
-pub enum Stop {
-    Budget,
-    Halted,
-}
-
-// The steps done, the sum of their bus bytes, and why the run stopped.
-pub struct Run {
-    pub steps: u16,
-    pub bus: u32,
-    pub stop: Stop,
 }
 
 // The refusals 1 to 9, in the order of their numbers.

@@ -13,15 +13,16 @@ use Rattle.history.specs.Ring.{Ring}
 use Rattle.input.specs.Record.{undoFrom, undoAs, recordWith}
 use Rattle.input.specs.Inputs.{Input}
 use Rattle.input.specs.declared.record.Before.{Before}
-use Rattle.machine.specs.Calls.{W, Keeps, answerOf, worldOf, numberOf, causeIs, saidBy, replied}
+use Rattle.advance.specs.Standing.{W, causeIs}
+use Rattle.advance.specs.declared.Run.{Run}
+use Rattle.advance.specs.declared.Stop.{Stop}
+use Rattle.advance.specs.declared.Stop.the-variants.{Halted, Budget}
+use Rattle.machine.specs.Calls.{Keeps, answerOf, worldOf, numberOf, saidBy, replied}
 use Rattle.machine.specs.declared.state.Machine.{Machine}
 use Rattle.machine.specs.declared.state.Refusal.{Refusal}
 use Rattle.machine.specs.declared.state.Refusal.the-variants as Refusal
 use Rattle.machine.specs.declared.state.Answer.{Answer}
 use Rattle.machine.specs.declared.state.Answer.the-variants.{Accepted, Stepped, Ran, Refused}
-use Rattle.machine.specs.declared.state.Run.{Run}
-use Rattle.machine.specs.declared.state.Stop.{Stop}
-use Rattle.machine.specs.declared.state.Stop.the-variants.{Halted, Budget}
 use Rattle.machine.specs.declared.state.Reply.{Reply}
 use Rattle.mb50.specs.Boundary.{taken, given, packed, causeNumber, resultOf, Crossed, leaves, crossed, Crosses}
 

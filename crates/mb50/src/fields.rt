@@ -1,14 +1,15 @@
 // The answer as one number of 64 bits.
+use advance::Run;
+use advance::Stop;
 use machine::state;
 use machine::state::Answer;
-use machine::state::Run;
-use machine::state::Stop;
 use text::assemble::Assembled;
 use text::list::Listed;
 ghost use mathlib.Core.Path.{_≡_};
 ghost use mathlib.Core.Bool.{not};
 ghost use lib.Dec.{eqb};
-ghost use Rattle.machine.specs.Calls.{W, saidBy, causeIs};
+ghost use Rattle.advance.specs.Standing.{W, causeIs};
+ghost use Rattle.machine.specs.Calls.{saidBy};
 ghost use Rattle.text.specs.Answer.{listedAs, assembledAs};
 ghost use Rattle.mb50.specs.Boundary.{packed, causeNumber, resultOf, listed as listedBy, assembled as assembledBy};
 

@@ -2,10 +2,10 @@ use Prim.Native.Nat.{_-_}
 use mathlib.Core.Path.{_≡_, refl, _∙_}
 use native.Mathlib.Omega.{arith}
 use lib.ListN.{length}
-use Rattle.machine.proofs.Turns.{world, runs, Going, begin, turn, halts, ends}
+use Rattle.advance.proofs.Turns.{world, runs, Going, begin, turn, halts, ends}
 use borrow.Author.Needs.{needs}
-use Rattle.machine.proofs.running.advance.Statement.{statement}
-use Rattle.machine.proofs.running.advance.Tie as tie
+use Rattle.advance.proofs.advance.Statement.{statement}
+use Rattle.advance.proofs.advance.Tie as tie
 
 abbrev Inv-loop : tie.InvT-loop
 Inv-loop ram₀ journal₀ budget regs₀ csrs₀ v₀ halted₀ at₀ steps₀ bus₀ ram journal regs csrs v halted at steps bus =
