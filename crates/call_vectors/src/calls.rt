@@ -3,11 +3,11 @@ use crate::commands::Command;
 use crate::digest;
 use crate::state;
 use crate::state::Desk;
-use machine::back;
 use machine::inputs;
-use machine::running;
 use machine::state::Machine;
 use machine::state::Reply;
+use motion::back;
+use motion::running;
 
 fn replied(m: Machine, c: Command, ram: &mut [u8], journal: &mut [u16]) -> Reply {
     let kind = c.kind;

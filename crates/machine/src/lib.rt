@@ -1,6 +1,4 @@
-// The calls on the machine: inputs, run, step back, with the journal and the numbered refusals.
-pub mod back;
-mod checks;
+// The machine, its answers and refusals, the checks that every call makes, and the inputs but the step.
+pub mod checks;
 pub mod inputs;
-pub mod running;
 pub mod state;

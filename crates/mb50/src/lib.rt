@@ -2,9 +2,9 @@
 mod fields;
 mod words;
 
-use machine::back;
 use machine::inputs;
-use machine::running;
+use motion::back;
+use motion::running;
 ghost use Rattle.history.specs.Trace.{Call, give, back as goesBack};
 ghost use Rattle.input.specs.Inputs.{Input};
 ghost use Rattle.mb50.specs.Boundary.{Crosses, listed, assembled};

@@ -7,7 +7,7 @@ use Rattle.mb50.proofs.mb50_run.Statement.{statement}
 use Rattle.mb50.proofs.mb50_run.Tie as tie
 use Rattle.mb50.proofs.mb50_run.Reads as reads
 use Rattle.mb50.proofs.mb50_run.Lts as lts
-use Rattle.machine.proofs.running.run.Reads as run-reads
+use Rattle.motion.proofs.running.run.Reads as run-reads
 use Rattle.mb50.proofs.words.answer.Reads as answer-reads
 use Rattle.mb50.proofs.words.taken.Reads as taken-reads
 

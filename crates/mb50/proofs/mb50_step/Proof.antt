@@ -7,7 +7,7 @@ use Rattle.mb50.proofs.mb50_step.Statement.{statement}
 use Rattle.mb50.proofs.mb50_step.Tie as tie
 use Rattle.mb50.proofs.mb50_step.Reads as reads
 use Rattle.mb50.proofs.mb50_step.Lts as lts
-use Rattle.machine.proofs.running.step.Reads as step-reads
+use Rattle.motion.proofs.running.step.Reads as step-reads
 use Rattle.mb50.proofs.words.answer.Reads as answer-reads
 use Rattle.mb50.proofs.words.taken.Reads as taken-reads
 

@@ -6,7 +6,7 @@ use Rattle.mb50.proofs.mb50_step_back.Statement.{statement}
 use Rattle.mb50.proofs.mb50_step_back.Tie as tie
 use Rattle.mb50.proofs.mb50_step_back.Reads as reads
 use Rattle.mb50.proofs.mb50_step_back.Lts as lts
-use Rattle.machine.proofs.back.step_back.Reads as step-back-reads
+use Rattle.motion.proofs.back.step_back.Reads as step-back-reads
 use Rattle.mb50.proofs.words.answer.Reads as answer-reads
 use Rattle.mb50.proofs.words.taken.Reads as taken-reads
 

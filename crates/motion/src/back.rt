@@ -1,13 +1,13 @@
 // Step back.
-use crate::checks;
-use crate::state::Answer;
-use crate::state::Machine;
-use crate::state::Refusal;
-use crate::state::Reply;
 use history::undo;
 use input::record;
+use machine::checks;
+use machine::state::Answer;
+use machine::state::Machine;
+use machine::state::Refusal;
+use machine::state::Reply;
 ghost use Rattle.history.specs.Trace.{back};
 ghost use Rattle.machine.specs.Calls.{Keeps};
 
 pub fn step_back(m: Machine, ram: &mut [u8], journal: &[u16]) -> Reply
     ensures { λ r. ⌜ Keeps back m (now (ram .entry)) (now (journal .entry)) r (now (ram .exit)) (now (journal .entry)) ⌝ }

@@ -2,10 +2,11 @@ use mathlib.Core.Path.{_∙_}
 use native.Mathlib.Omega.{arith}
 use denote.Ref.{now}
 use Rattle.history.specs.Trace.{back}
-use Rattle.machine.proofs.Answering.{fails, passes, none-held, restores, unsound, newest-in, sits}
+use Rattle.machine.proofs.Answering.{fails, passes}
+use Rattle.motion.proofs.Moving.{none-held, restores, unsound, newest-in, sits}
 use borrow.Author.Needs.{needs}
-use Rattle.machine.proofs.back.step_back.Statement.{statement}
-use Rattle.machine.proofs.back.step_back.Tie as tie
+use Rattle.motion.proofs.back.step_back.Statement.{statement}
+use Rattle.motion.proofs.back.step_back.Tie as tie
 
 check-of-requires : tie.Need-check-of-requires
 check-of-requires c κs = search needs

@@ -3,11 +3,12 @@ use denote.Ref.{now}
 use Rattle.history.specs.Trace.{give}
 use Rattle.input.specs.Inputs.{box, step}
 use Rattle.input.proofs.Giving.{step-goes, step-stops}
 use Rattle.machine.specs.declared.state.Refusal.the-variants as Refusal
-use Rattle.machine.proofs.Answering.{fails, denied, passes, alone}
+use Rattle.machine.proofs.Answering.{fails, denied, passes}
+use Rattle.motion.proofs.Moving.{alone}
 use borrow.Author.Needs.{needs}
-use Rattle.machine.proofs.running.step.Statement.{statement}
-use Rattle.machine.proofs.running.step.Tie as tie
+use Rattle.motion.proofs.running.step.Statement.{statement}
+use Rattle.motion.proofs.running.step.Tie as tie
 
 check-of-requires : tie.Need-check-of-requires
 check-of-requires c κs = search needs

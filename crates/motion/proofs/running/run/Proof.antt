@@ -1,10 +1,11 @@
 use mathlib.Core.Path.{_∙_}
 use denote.Ref.{now}
 use Rattle.history.specs.Trace.{Call}
-use Rattle.machine.proofs.Answering.{fails, ran-as}
+use Rattle.machine.proofs.Answering.{fails}
+use Rattle.motion.proofs.Moving.{ran-as}
 use borrow.Author.Needs.{needs}
-use Rattle.machine.proofs.running.run.Statement.{statement}
-use Rattle.machine.proofs.running.run.Tie as tie
+use Rattle.motion.proofs.running.run.Statement.{statement}
+use Rattle.motion.proofs.running.run.Tie as tie
 
 check-of-requires : tie.Need-check-of-requires
 check-of-requires c κs = search needs

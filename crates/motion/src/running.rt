@@ -1,16 +1,16 @@
 // The run, and the lone step.
-use crate::checks;
-use crate::state::Answer;
-use crate::state::Machine;
-use crate::state::Refusal;
-use crate::state::Reply;
 use bus::state::Cpu;
 use history::Place;
+use machine::checks;
+use machine::state::Answer;
+use machine::state::Machine;
+use machine::state::Refusal;
+use machine::state::Reply;
 ghost use mathlib.Core.Path.{_≡_};
 ghost use Rattle.history.specs.Trace.{Call, give};
 ghost use Rattle.input.specs.Inputs.{Input};
 ghost use Rattle.machine.specs.Calls.{Keeps};
-ghost use Rattle.machine.specs.Lent.{machineAt, placeIn};
+ghost use Rattle.motion.specs.Places.{machineAt, placeIn};
 
 fn machine_of(c: Cpu, p: Place) -> Machine
     ensures { λ r. ⌜ r ≡ machineAt c p ⌝ }
