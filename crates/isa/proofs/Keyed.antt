@@ -39,7 +39,7 @@ tail-bytes : (b : ℕ) (w : List ℕ) → Bytes (b ∷ w) → Bytes w
 unfolding Bytes
 tail-bytes b w h = λ j. h (suc j)
 
-same-eq : (w n : List ℕ) → same w n ≡ true → w ≡ n
+pub same-eq : (w n : List ℕ) → same w n ≡ true → w ≡ n
 same-eq [] [] e = refl
 same-eq [] (y ∷ ys) e = let z : _≡_ {A = ℕ} 0 1 = cc in absurd (omega arith)
 same-eq (x ∷ xs) [] e = let z : _≡_ {A = ℕ} 0 1 = cc in absurd (omega arith)

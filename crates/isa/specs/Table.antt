@@ -1,12 +1,13 @@
 -- How the decode table keeps an opcode's meaning: one number of 64 bits, the mnemonic's bytes below, the operation's number in the top byte.
 -- What an opcode means stands in Opcode and what a name stands for in Names; here is only how numbers keep them.
-use Prim.Native.Nat.{ℕ, suc, _+_, _*_, _/_, _%_, _^_}
+use Prim.Native.Nat.{ℕ, suc, _+_, _*_, _/_, _%_, _^_, _<_}
 use mathlib.Core.Bool.{Bool, true, false, cond, _&&_}
 use mathlib.Core.List.{List, [], _∷_, map}
 use mathlib.Core.Path.{_≡_}
+use lib.Bits.{bitOr}
 use lib.Dec.{leb, eqb}
 use lib.ListN.{getD, length}
-use Rattle.isa.specs.Opcode.{meaning, images}
+use Rattle.isa.specs.Opcode.{meaning, givesReason2, images}
 use Rattle.alu.specs.declared.AluOp.{AluOp}
 use Rattle.alu.specs.declared.AluOp.the-variants.{Add, And, Dec1, Dec2, Inc1, Inc2, Not, Or, Rev, Shl, Shr, Shra, Sub, Xor}
 use Rattle.alu.specs.declared.CompareOp.{CompareOp}
@@ -92,3 +93,11 @@ toldOf opcode = record { name = pack (meaning opcode .name); op = meaning opcode
 -- the entries of a table tell, each in its place, what the 256 opcode bytes are
 unfoldable pub TellsAll : List ℕ → Type 0
 TellsAll table = map told table ≡ images toldOf 0 256
+
+-- the mark of a key, which no two names share
+unfoldable pub markOf : ℕ → ℕ
+markOf key = bitOr (key % 938964 % 187) 256
+
+-- no other opcode's name has the key's mark
+unfoldable pub CanOnlyBe : ℕ → ℕ → Type 0
+CanOnlyBe key opcode = (o : ℕ) → o < 256 → givesReason2 o ≡ false → markOf (pack (meaning o .name)) ≡ markOf key → opcode ≡ o

@@ -1,5 +1,5 @@
-// What each opcode byte is: by match for stepping and listing, since a constant array is written anew at each call that reads it, and by
-// one table of all of them for assembling.
+// What each opcode byte is: by match for stepping and listing, since a constant array is written anew at each call that reads it at a place that
+// is not constant, and by one table of all of them for assembling.
 use crate::keys;
 use alu::AluOp;
 use alu::CompareOp;
@@ -8,7 +8,7 @@ ghost use mathlib.Core.List.{_++_};
 ghost use lib.ListN.{getD};
 ghost use Rattle.isa.specs.Names.{bytes};
 ghost use Rattle.isa.specs.Opcode.{meaning, plain, reason2, conditionName, opcodeNamed};
-ghost use Rattle.isa.specs.Table.{pack, TellsAll};
+ghost use Rattle.isa.specs.Table.{pack, nameOf, TellsAll, CanOnlyBe};
 
 pub enum MoveOp {
     Csrr,
@@ -47,6 +47,9 @@ pub enum FoundOpcode {
     Is(u8),
     Unknown,
 }
+
+// A row of the table: an opcode and its entry.
+struct Row(u8, u64);
 
 // For each opcode byte the mnemonic's bytes, the first lowest, and in the top byte the operation's number: its group, then its place there.
 const TABLE: [u64; 256] = [
@@ -471,14 +474,102 @@ pub fn mnemonic(opcode: u8) -> u64
     }
 }
 
+// The one opcode that a name with this key can have, and what the table says of it: no two mnemonics give the match the same number. An entry is
+// read at a constant place, so that the compiler keeps the table and does not write it anew; with bit 8 set it keeps the match as a table too.
+fn candidate(key: u64) -> Row
+    ensures { λ r. ⌜ nameOf (r .1) ≡ pack (meaning (r .0) .name) ⌝ }
+    ensures { λ r. ⌜ CanOnlyBe key (r .0) ⌝ }
+{
+    let entries = table();
+    match (key % 938964 % 187) | 256 {
+        386 => Row(0, entries[0]),
+        260 => Row(1, entries[1]),
+        389 => Row(2, entries[2]),
+        346 => Row(3, entries[3]),
+        319 => Row(4, entries[4]),
+        390 => Row(5, entries[5]),
+        422 => Row(6, entries[6]),
+        355 => Row(7, entries[7]),
+        268 => Row(8, entries[8]),
+        300 => Row(9, entries[9]),
+        345 => Row(10, entries[10]),
+        323 => Row(11, entries[11]),
+        261 => Row(12, entries[12]),
+        279 => Row(14, entries[14]),
+        314 => Row(16, entries[16]),
+        379 => Row(17, entries[17]),
+        307 => Row(18, entries[18]),
+        262 => Row(19, entries[19]),
+        257 => Row(20, entries[20]),
+        271 => Row(21, entries[21]),
+        335 => Row(22, entries[22]),
+        396 => Row(23, entries[23]),
+        381 => Row(24, entries[24]),
+        417 => Row(25, entries[25]),
+        376 => Row(26, entries[26]),
+        353 => Row(27, entries[27]),
+        327 => Row(28, entries[28]),
+        361 => Row(29, entries[29]),
+        441 => Row(144, entries[144]),
+        354 => Row(145, entries[145]),
+        267 => Row(146, entries[146]),
+        330 => Row(147, entries[147]),
+        391 => Row(148, entries[148]),
+        292 => Row(149, entries[149]),
+        317 => Row(150, entries[150]),
+        339 => Row(151, entries[151]),
+        368 => Row(152, entries[152]),
+        400 => Row(153, entries[153]),
+        432 => Row(154, entries[154]),
+        277 => Row(155, entries[155]),
+        256 => Row(156, entries[156]),
+        409 => Row(157, entries[157]),
+        402 => Row(158, entries[158]),
+        282 => Row(159, entries[159]),
+        299 => Row(160, entries[160]),
+        399 => Row(161, entries[161]),
+        312 => Row(162, entries[162]),
+        412 => Row(163, entries[163]),
+        333 => Row(164, entries[164]),
+        421 => Row(165, entries[165]),
+        259 => Row(166, entries[166]),
+        318 => Row(167, entries[167]),
+        310 => Row(168, entries[168]),
+        342 => Row(169, entries[169]),
+        374 => Row(170, entries[170]),
+        406 => Row(171, entries[171]),
+        382 => Row(172, entries[172]),
+        348 => Row(173, entries[173]),
+        341 => Row(174, entries[174]),
+        408 => Row(175, entries[175]),
+        375 => Row(192, entries[192]),
+        288 => Row(193, entries[193]),
+        388 => Row(194, entries[194]),
+        264 => Row(195, entries[195]),
+        325 => Row(196, entries[196]),
+        413 => Row(197, entries[197]),
+        438 => Row(198, entries[198]),
+        273 => Row(199, entries[199]),
+        302 => Row(200, entries[200]),
+        334 => Row(201, entries[201]),
+        366 => Row(202, entries[202]),
+        398 => Row(203, entries[203]),
+        377 => Row(204, entries[204]),
+        343 => Row(205, entries[205]),
+        336 => Row(206, entries[206]),
+        403 => Row(207, entries[207]),
+        _ => Row(13, entries[13]),
+    }
+}
+
 // The opcode that a mnemonic of either case stands for.
 pub fn named(name: &[u8]) -> FoundOpcode
     ensures { λ r. ⌜ r ≡ opcodeNamed (now (name .entry)) ⌝ }
 {
-    let entries = table();
-    let place = keys::seek(&entries, keys::key(name));
-    if place < 256 {
-        FoundOpcode::Is(place as u8)
+    let key = keys::key(name);
+    let row = candidate(key);
+    if keys::name(row.1) == key {
+        FoundOpcode::Is(row.0)
     } else {
         FoundOpcode::Unknown
     }

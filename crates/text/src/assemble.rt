@@ -8,6 +8,7 @@ use isa::register::FoundCsr;
 use isa::register::FoundReg;
 use isa::register::Reg;
 ghost use mathlib.Core.Path.{_≡_};
+ghost use lib.Dec.{eqb};
 ghost use Rattle.isa.specs.Names.{regNamed, csrNamed};
 ghost use Rattle.isa.specs.Opcode.{opcodeNamed};
 ghost use Rattle.text.specs.Answer.{assembledAs};
@@ -47,11 +48,12 @@ fn reg_operand(name: &[u8]) -> Operand
     }
 }
 
-fn find_operand(is_csr: bool, name: &[u8]) -> Operand
-    ensures { λ r. ⌜ r ≡ operandOf «is_csr» (now (name .entry)) ⌝ }
+// An operand: a CSR where the opcode is the chosen one, else a register.
+fn find_operand(code: u8, chosen: u8, name: &[u8]) -> Operand
+    ensures { λ r. ⌜ r ≡ operandOf (eqb code chosen) (now (name .entry)) ⌝ }
     ensures { λ r. ⌜ Small r ⌝ }
 {
-    if is_csr {
+    if code == chosen {
         csr_operand(name)
     } else {
         reg_operand(name)
@@ -79,7 +81,7 @@ fn assemble_words(m: &[u8], d: &[u8], s: &[u8]) -> Assembled
     let FoundOpcode::Is(code) = opcode::named(m) else {
         return Assembled::BadMnemonic;
     };
-    encode(code, find_operand(code == 4, d), find_operand(code == 3, s))
+    encode(code, find_operand(code, 4, d), find_operand(code, 3, s))
 }
 
 // The word of a line, as `mv r1, r2`; 12, 13 or 14 where it is none.

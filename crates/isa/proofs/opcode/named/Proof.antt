@@ -1,55 +1,51 @@
-use mathlib.Core.Path.{_≡_, refl, sym, ap, _∙_}
-use borrow.Author.Tests.{lt-ltb, le-ltb}
+use mathlib.Core.Path.{_≡_, sym, ap, subst, _∙_}
 use mathlib.Core.List.{map}
+use Prim.Native.Nat.{ℕ}
+use native.Mathlib.Omega.{arith}
+use borrow.Author.Needs.{needs}
+use borrow.Author.Tests.{lt-ltb}
 use denote.Ref.{now}
-use Rattle.isa.specs.Table.{seekIn}
 use Rattle.isa.specs.Names.{lower}
 use Rattle.isa.specs.Opcode.{opcodeNamed}
+use Rattle.isa.specs.Table.{CanOnlyBe}
 use Rattle.isa.proofs.Keyed.{known-bytes, lower-bytes}
-use Rattle.isa.proofs.Tables.{finds}
-use borrow.Author.Needs.{needs}
+use Rattle.isa.proofs.Marks.{found, missed}
 use Rattle.isa.proofs.opcode.named.Statement.{statement}
 use Rattle.isa.proofs.opcode.named.Tie as tie
-
-table-requires : tie.Need-table-requires
-table-requires c κs = search needs
-
-slice-aggregate-seek : tie.Need-slice-aggregate-seek
-slice-aggregate-seek c = search needs
 
 key-requires : tie.Need-key-requires
 key-requires c κs = search needs
 
-seek-requires : tie.Need-seek-requires
-seek-requires c κs = search needs
+candidate-requires : tie.Need-candidate-requires
+candidate-requires c κs = search needs
 
-cast-t10 : tie.Need-cast-t10
-cast-t10 c = search needs
+name-requires : tie.Need-name-requires
+name-requires c κs = search needs
 
 returns : tie.Need-returns
 unfolding opcodeNamed
 returns c =
-    let w = now (c .before .before .before .before .before .before .args .name) in
-    let b = lower-bytes w (known-bytes w (c .before .before .before .before .before .shared-slice-known .given)) in
-    let e = c .before .seek .ensures ∙ ap (seekIn (c .before .before .before .before .table .result)) (c .before .before .key .ensures) ∙ finds (c .before .before .before .before .table .result) (c .before .before .before .before .table .ensures) (map lower w) b in
-    rw (← e, lt-ltb _ _ (c .if1 .taken))
+    let w = now (c .before .before .before .before .before .args .name) in
+    let b = lower-bytes w (known-bytes w (c .before .before .before .before .shared-slice-known .given)) in
+    let r = c .before .before .candidate in
+    let k = c .before .before .before .key .ensures in
+    let e = found (map lower w) b (r .result .0) (omega arith) (sym (r .ensures .0) ∙ sym (c .before .name .ensures) ∙ c .if1 .taken ∙ k) in
+    rw (e, lt-ltb (r .result .0) 256 (omega arith))
 
 returns-2 : tie.Need-returns-2
 unfolding opcodeNamed
 returns-2 c =
-    let w = now (c .before .before .before .before .before .before .args .name) in
-    let b = lower-bytes w (known-bytes w (c .before .before .before .before .before .shared-slice-known .given)) in
-    let e = c .before .seek .ensures ∙ ap (seekIn (c .before .before .before .before .table .result)) (c .before .before .key .ensures) ∙ finds (c .before .before .before .before .table .result) (c .before .before .before .before .table .ensures) (map lower w) b in
-    rw (← e, le-ltb _ _ (c .if1 .left))
+    let w = now (c .before .before .before .before .before .args .name) in
+    let b = lower-bytes w (known-bytes w (c .before .before .before .before .shared-slice-known .given)) in
+    let r = c .before .before .candidate in
+    let k = c .before .before .before .key .ensures in
+    rw
+    (missed
+    (map lower w)
+    b
+    (r .result .0)
+    (subst (λ (x : ℕ). CanOnlyBe x (r .result .0)) k (r .ensures .1))
+    (λ q. c .if1 .left (c .before .name .ensures ∙ r .ensures .0 ∙ q ∙ sym k)))
 
 pub named-spec : {M : Type 1} → statement M
-named-spec =
-    tie.close
-    (tie.spec
-    table-requires
-    slice-aggregate-seek
-    key-requires
-    seek-requires
-    cast-t10
-    returns
-    returns-2)
+named-spec = tie.close (tie.spec key-requires candidate-requires name-requires returns returns-2)
