@@ -27,10 +27,16 @@ fn is_blank(b: u8) -> bool
     b == 9
 }
 
-// By the ends of the stretches of letters, digits and the underscore.
+// By the ends of the stretches of letters, digits and the underscore; small letters first, since most bytes of words are.
 fn is_wordy(b: u8) -> bool
     ensures { λ r. ⌜ r ≡ wordy b ⌝ }
 {
+    if 122 < b {
+        return false;
+    }
+    if 96 < b {
+        return true;
+    }
     if b < 48 {
         return false;
     }
@@ -47,12 +53,6 @@ fn is_wordy(b: u8) -> bool
         return false;
     }
     if b < 96 {
-        return true;
-    }
-    if b < 97 {
-        return false;
-    }
-    if b < 123 {
         return true;
     }
     false
@@ -86,6 +86,13 @@ pub fn match_line(line: &[u8]) -> Split
     let mut at = skip_blanks(line, 0);
     'line: loop {
         let from = at;
+        if line.len() <= at {
+            break Split::NoWords;
+        }
+        if !is_wordy(line[at]) {
+            break Split::NoWords;
+        }
+        at += 1;
         'word: loop {
             if line.len() <= at {
                 if word < 2 {
@@ -97,9 +104,6 @@ pub fn match_line(line: &[u8]) -> Split
                 break;
             }
             at += 1;
-        }
-        if at == from {
-            break Split::NoWords;
         }
         let next = skip_blanks(line, at);
         if word == 0 {
