@@ -1,9 +1,10 @@
 // A run: steps until the machine is halted or the budget used up, each with its record.
-use bus::state::Cpu;
+use bus::state::Devices;
 use cpu::step;
 use history::Place;
 use input::record;
 ghost use mathlib.Core.Path.{_≡_};
+ghost use Rattle.bus.specs.State.{cpu};
 ghost use Rattle.history.specs.Trace.{ran};
 ghost use Rattle.history.specs.Ring.{ring};
 ghost use Rattle.input.specs.Record.{recordOf, decoded};
@@ -22,9 +23,10 @@ pub struct Run {
     pub stop: Stop,
 }
 
-// What a run leaves.
+// What a run leaves beside the registers and CSRs that were lent to it.
 pub struct Ended {
-    pub cpu: Cpu,
+    pub devices: Devices,
+    pub halted: bool,
     pub place: Place,
     pub run: Run,
 }
@@ -45,14 +47,22 @@ fn note(journal: &mut [u16], slot: usize, count: u8, first: u16, old: u16)
     history::amend(journal, slot, 25, count as u16, first, old);
 }
 
-// Steps until the machine is halted or the budget used up: the one place that steps.
-pub fn advance(c: Cpu, place: Place, ram: &mut [u8], journal: &mut [u16], budget: u16) -> Ended
-    ensures { λ r. ⌜ ran machine (ring recordOf decoded) budget (standing c place (now (ram .entry)) (now (journal .entry))) ≡ ranAs r (now (ram .exit)) (now (journal .exit)) ⌝ }
+// Steps until the machine is halted or the budget used up: the one place that steps. Registers and CSRs are lent and not copied, since a lone step's
+// caller reads at once what the step wrote.
+pub fn advance(
+    regs: &mut [u16; 16],
+    csrs: &mut [u16; 6],
+    devices: Devices,
+    stopped: bool,
+    place: Place,
+    ram: &mut [u8],
+    journal: &mut [u16],
+    budget: u16,
+) -> Ended
+    ensures { λ r. ⌜ ran machine (ring recordOf decoded) budget (standing (cpu (now (regs .entry)) (now (csrs .entry)) devices stopped) place (now (ram .entry)) (now (journal .entry))) ≡ ranAs r (now (regs .exit)) (now (csrs .exit)) (now (ram .exit)) (now (journal .exit)) ⌝ }
 {
-    let mut regs = c.regs;
-    let mut csrs = c.csrs;
-    let mut v = c.devices;
-    let mut halted = c.halted;
+    let mut v = devices;
+    let mut halted = stopped;
     let mut at = place;
     let mut steps: u16 = 0;
     let mut bus: u32 = 0;
@@ -64,10 +74,10 @@ pub fn advance(c: Cpu, place: Place, ram: &mut [u8], journal: &mut [u16], budget
             break told(steps, bus, Stop::Budget);
         }
         // The record of the state before the step; what the step writes goes in after it.
-        let words = record::encode(regs, csrs, v, halted, 0, 0, 0);
+        let words = record::encode(*regs, *csrs, v, halted, 0, 0, 0);
         let slot = at.next;
         at = history::push(journal, at, words);
-        let q = step::step(&mut regs, &mut csrs, ram, v, halted);
+        let q = step::step(regs, csrs, ram, v, halted);
         note(journal, slot, q.count, q.first, q.old);
         v = q.devices;
         halted = q.halted;
@@ -75,12 +85,8 @@ pub fn advance(c: Cpu, place: Place, ram: &mut [u8], journal: &mut [u16], budget
         steps = steps + 1;
     };
     Ended {
-        cpu: Cpu {
-            regs,
-            csrs,
-            devices: v,
-            halted,
-        },
+        devices: v,
+        halted,
         place: at,
         run,
     }

@@ -118,17 +118,20 @@ stop-back Budget = refl
 abbrev endedFrom : AnswerOf Cpu Ring → Stop → Ended
 endedFrom a t =
     record {
-      cpu = a .world .box .cpu;
+      devices = a .world .box .cpu .devices;
+      halted = a .world .box .cpu .halted;
       place = record { next = a .world .journal .next; held = a .world .journal .held };
       run = record { steps = a .steps; bus = a .bus; stop = t };
     }
 
--- for the run: all that it returns, memory and journal
-pub single-run : (r r′ : Ended) (m m′ ws ws′ : List ℕ) → ranAs r m ws ≡ ranAs r′ m′ ws′ → (r ≡ r′) × (m ≡ m′) × (ws ≡ ws′)
-single-run r r′ m m′ ws ws′ e = (
-  ap (endedFrom (ranAs r m ws)) (sym (stop-back (r .run .stop)))
+-- for the run: all that it returns, registers, CSRs, memory and journal
+pub single-run : (r r′ : Ended) (g g′ k k′ m m′ ws ws′ : List ℕ) → ranAs r g k m ws ≡ ranAs r′ g′ k′ m′ ws′ → (r ≡ r′) × (g ≡ g′) × (k ≡ k′) × (m ≡ m′) × (ws ≡ ws′)
+single-run r r′ g g′ k k′ m m′ ws ws′ e = (
+  ap (endedFrom (ranAs r g k m ws)) (sym (stop-back (r .run .stop)))
       ∙ ap (λ (a : AnswerOf Cpu Ring). endedFrom a (stopFrom (a .cause))) e
-      ∙ ap (endedFrom (ranAs r′ m′ ws′)) (stop-back (r′ .run .stop)),
+      ∙ ap (endedFrom (ranAs r′ g′ k′ m′ ws′)) (stop-back (r′ .run .stop)),
+  ap (λ (a : AnswerOf Cpu Ring). a .world .box .cpu .regs) e,
+  ap (λ (a : AnswerOf Cpu Ring). a .world .box .cpu .csrs) e,
   ap (λ (a : AnswerOf Cpu Ring). a .world .box .ram) e,
   ap (λ (a : AnswerOf Cpu Ring). a .world .journal .words) e,
 )

@@ -9,6 +9,7 @@ use native.Mathlib.Omega.{arith}
 use native.Mathlib.Nat.{add-zero}
 use borrow.Author.Tests.{lt-ltb, leb-true, ltb-true, eqb-true}
 use lib.Dec.{leb, ltb, eqb}
+use Rattle.bus.specs.State.{cpu}
 use Rattle.bus.specs.declared.state.Cpu.{Cpu}
 use Rattle.history.specs.Undo.{restored}
 use Rattle.history.specs.Trace.{Effect, gives, Undo, no-run, Answer as AnswerOf, answers, Call, give, back, backed, ran, after}
@@ -28,15 +29,15 @@ use Rattle.machine.specs.declared.state.Reply.{Reply}
 use Rattle.machine.proofs.Answering.{plainly, passes}
 
 -- a run, where the checks pass
-pub ran-as : (m : MachineT) (ram ws : List ℕ) (n : ℕ) → n ≡ checkOf (worldOf m ram ws) → n ≡ 0 → (k : ℕ) (r : Ended) (ram′ ws′ : List ℕ)
-    → ran machine (ring recordOf decoded) k (worldOf m ram ws) ≡ ranAs r ram′ ws′ → answerOf (Call.run k) (worldOf m ram ws) ≡ ranAs r ram′ ws′
-ran-as m ram ws n e z k r ram′ ws′ s = passes m ram ws n e z (Call.run k) ∙ s
+pub ran-as : (m : MachineT) (ram ws : List ℕ) (n : ℕ) → n ≡ checkOf (worldOf m ram ws) → n ≡ 0 → (k : ℕ) (r : Ended) (g′ k′ ram′ ws′ : List ℕ)
+    → ran machine (ring recordOf decoded) k (worldOf m ram ws) ≡ ranAs r g′ k′ ram′ ws′ → answerOf (Call.run k) (worldOf m ram ws) ≡ ranAs r g′ k′ ram′ ws′
+ran-as m ram ws n e z k r g′ k′ ram′ ws′ s = passes m ram ws n e z (Call.run k) ∙ s
 
 -- a lone step, from a run of one
-pub alone : (m : MachineT) (ram ws : List ℕ) (r : Ended) (ram′ ws′ : List ℕ) (x : Effect Cpu) → nextOf step (box (m .cpu) ram) ≡ gives x
-    → ran machine (ring recordOf decoded) 1 (worldOf m ram ws) ≡ ranAs r ram′ ws′
-    → plainly (give step) (worldOf m ram ws) ≡ answers 0 1 (r .run .bus) no-run (standing (r .cpu) (r .place) ram′ ws′)
-alone m ram ws r ram′ ws′ x q s =
+pub alone : (m : MachineT) (ram ws : List ℕ) (r : Ended) (g′ k′ ram′ ws′ : List ℕ) (x : Effect Cpu) → nextOf step (box (m .cpu) ram) ≡ gives x
+    → ran machine (ring recordOf decoded) 1 (worldOf m ram ws) ≡ ranAs r g′ k′ ram′ ws′
+    → plainly (give step) (worldOf m ram ws) ≡ answers 0 1 (r .run .bus) no-run (standing (cpu g′ k′ (r .devices) (r .halted)) (r .place) ram′ ws′)
+alone m ram ws r g′ k′ ram′ ws′ x q s =
     let t = rw q at s in
     rw q (ap (λ (b : ℕ). answers 0 1 b no-run (after machine (ring recordOf decoded) (worldOf m ram ws) x)) (sym (add-zero (x .bus))) ∙ ap (λ (a : AnswerOf Cpu Ring). answers 0 1 (a .bus) no-run (a .world)) t)
 

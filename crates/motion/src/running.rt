@@ -1,5 +1,6 @@
 // The run, and the lone step.
 use bus::state::Cpu;
+use bus::state::Devices;
 use history::Place;
 use machine::checks;
 use machine::state::Answer;
@@ -7,16 +8,22 @@ use machine::state::Machine;
 use machine::state::Refusal;
 use machine::state::Reply;
 ghost use mathlib.Core.Path.{_≡_};
+ghost use Rattle.bus.specs.State.{cpu};
 ghost use Rattle.history.specs.Trace.{Call, give};
 ghost use Rattle.input.specs.Inputs.{Input};
 ghost use Rattle.machine.specs.Calls.{Keeps};
 ghost use Rattle.motion.specs.Places.{machineAt, placeIn};
 
-fn machine_of(c: Cpu, p: Place) -> Machine
-    ensures { λ r. ⌜ r ≡ machineAt c p ⌝ }
+fn machine_of(regs: [u16; 16], csrs: [u16; 6], devices: Devices, halted: bool, p: Place) -> Machine
+    ensures { λ r. ⌜ r ≡ machineAt (cpu regs csrs devices halted) p ⌝ }
 {
     Machine {
-        cpu: c,
+        cpu: Cpu {
+            regs,
+            csrs,
+            devices,
+            halted,
+        },
         next: p.next,
         held: p.held,
     }
@@ -39,13 +46,25 @@ pub fn run(m: Machine, ram: &mut [u8], journal: &mut [u16], budget: u16) -> Repl
         return checks::failed(m, n);
     }
     let before = m.cpu;
-    let e = advance::advance(before, place_of(m), ram, journal, budget);
-    let c = e.cpu;
+    let mut regs = before.regs;
+    let mut csrs = before.csrs;
+    let v = before.devices;
+    let e = advance::advance(
+        &mut regs,
+        &mut csrs,
+        v,
+        before.halted,
+        place_of(m),
+        ram,
+        journal,
+        budget,
+    );
+    let devices = e.devices;
     let p = e.place;
     let r = e.run;
     Reply {
         answer: Answer::Ran(r),
-        machine: machine_of(c, p),
+        machine: machine_of(regs, csrs, devices, e.halted, p),
     }
 }
 
@@ -60,11 +79,23 @@ pub fn step(m: Machine, ram: &mut [u8], journal: &mut [u16]) -> Reply
         return checks::refused(m, Refusal::Halted);
     }
     let before = m.cpu;
-    let e = advance::advance(before, place_of(m), ram, journal, 1);
-    let c = e.cpu;
+    let mut regs = before.regs;
+    let mut csrs = before.csrs;
+    let v = before.devices;
+    let e = advance::advance(
+        &mut regs,
+        &mut csrs,
+        v,
+        before.halted,
+        place_of(m),
+        ram,
+        journal,
+        1,
+    );
+    let devices = e.devices;
     let p = e.place;
     Reply {
         answer: Answer::Stepped(e.run.bus),
-        machine: machine_of(c, p),
+        machine: machine_of(regs, csrs, devices, e.halted, p),
     }
 }

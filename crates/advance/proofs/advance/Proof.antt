@@ -8,16 +8,16 @@ use Rattle.advance.proofs.advance.Statement.{statement}
 use Rattle.advance.proofs.advance.Tie as tie
 
 abbrev Inv-loop : tie.InvT-loop
-Inv-loop ram₀ journal₀ budget regs₀ csrs₀ v₀ halted₀ at₀ steps₀ bus₀ ram journal regs csrs v halted at steps bus =
+Inv-loop regs₀ csrs₀ stopped ram₀ journal₀ budget v₀ halted₀ at₀ steps₀ bus₀ regs csrs ram journal v halted at steps bus =
     Going budget (runs budget (world regs₀ csrs₀ v₀ halted₀ ram₀ journal₀ (at₀ .next) (at₀ .held))) steps bus (world regs csrs v halted ram journal (at .next) (at .held))
     × (length ram ≡ length ram₀) × (length journal ≡ length journal₀)
 
 abbrev μ-loop : tie.MeasureT-loop
-μ-loop ram₀ journal₀ budget regs₀ csrs₀ v₀ halted₀ at₀ steps₀ bus₀ ram journal regs csrs v halted at steps bus =
+μ-loop regs₀ csrs₀ stopped ram₀ journal₀ budget v₀ halted₀ at₀ steps₀ bus₀ regs csrs ram journal v halted at steps bus =
     budget - steps
 
 loop-holds : tie.Need-loop-holds Inv-loop μ-loop
-loop-holds c = (begin _ _ _ _ _ _ _ _ (c .before .before .before .before .before .args .budget), refl, refl)
+loop-holds c = (begin _ _ _ _ _ _ _ _ (c .before .before .args .budget), refl, refl)
 
 told-requires : tie.Need-told-requires Inv-loop μ-loop
 told-requires c κs = search needs
@@ -41,17 +41,17 @@ cast-bus : tie.Need-cast-bus Inv-loop μ-loop
 cast-bus c = search needs
 
 add-bus : tie.Need-add-bus Inv-loop μ-loop
-add-bus c = let l = c .before .before .before .before .before .before .before .before .before .before .before .before .before .before .before .before .before .before .before .loop in omega (arith, l .inv .0 .within, l .inv .0 .small, c .before .before .before .before .before .before .before .before .step .ok, c .before .before .before .before .before .before .before .before .before .before .before .before .before .before .before .before .before .before .before .before .before .before .before .before .before .fits .budget)
+add-bus c = let l = c .before .before .before .before .before .before .before .before .before .before .before .before .before .before .before .before .before .before .before .before .before .loop in omega (arith, l .inv .0 .within, l .inv .0 .small, c .before .before .before .before .before .before .before .before .step .ok, c .before .before .before .before .before .before .before .before .before .before .before .before .before .before .before .before .before .before .before .before .before .before .before .before .fits .budget)
 
 add-steps : tie.Need-add-steps Inv-loop μ-loop
-add-steps c = let l = c .before .before .before .before .before .before .before .before .before .before .before .before .before .before .before .before .before .before .before .loop in omega (arith, l .inv .0 .within, c .before .before .before .before .before .before .before .before .before .before .before .before .before .before .before .before .before .if2 .left, c .before .before .before .before .before .before .before .before .before .before .before .before .before .before .before .before .before .before .before .before .before .before .before .before .before .fits .budget)
+add-steps c = let l = c .before .before .before .before .before .before .before .before .before .before .before .before .before .before .before .before .before .before .before .before .before .loop in omega (arith, l .inv .0 .within, c .before .before .before .before .before .before .before .before .before .before .before .before .before .before .before .before .before .before .before .if2 .left, c .before .before .before .before .before .before .before .before .before .before .before .before .before .before .before .before .before .before .before .before .before .before .before .before .fits .budget)
 
 loop-less : tie.Need-loop-less Inv-loop μ-loop
-loop-less c = let i = c .before .before .before .before .before .before .before .before .before .before .before .before .before .before .before .before .before .before .before .loop .inv .0 in let w = i .within in let s = i .small in omega (arith, c .before .before .before .before .before .before .before .before .before .before .before .before .before .before .before .before .before .if2 .left)
+loop-less c = let i = c .before .before .before .before .before .before .before .before .before .before .before .before .before .before .before .before .before .before .before .before .before .loop .inv .0 in let w = i .within in let s = i .small in omega (arith, c .before .before .before .before .before .before .before .before .before .before .before .before .before .before .before .before .before .before .before .if2 .left)
 
 loop-again : tie.Need-loop-again Inv-loop μ-loop
-loop-again c = let l = c .before .before .before .before .before .before .before .before .before .before .before .before .before .before .before .before .before .before .before .loop in let q = c .before .before .before .before .before .before .before .before .step in let p = c .before .before .before .before .before .before .before .before .before .before .before .before .before .before .push in let a = c .before .before .before .before .note in
-    (turn (l .regs) (l .csrs) (l .v) (l .halted) (l .ram) (l .journal) (l .at .next) (l .at .held) _ _ _ _ (q .result) _ _ _ _ _ _ _ _ (c .before .before .before .before .before .before .before .before .before .before .before .before .before .before .before .before .before .before .if1 .left) (c .before .before .before .before .before .before .before .before .before .before .before .before .before .before .before .before .before .if2 .left) (omega (arith, q .ok)) (q .ensures) (c .before .before .before .before .before .before .before .before .before .before .before .before .before .before .before .before .encode .ensures) (p .ensures) (a .ensures) (l .inv .0), q .kept .1 .1 .0 ∙ l .inv .1, a .kept .0 ∙ p .kept .0 ∙ l .inv .2)
+loop-again c = let l = c .before .before .before .before .before .before .before .before .before .before .before .before .before .before .before .before .before .before .before .before .before .loop in let q = c .before .before .before .before .before .before .before .before .step in let p = c .before .before .before .before .before .before .before .before .before .before .before .before .before .before .push in let a = c .before .before .before .before .note in
+    (turn (l .regs) (l .csrs) (l .v) (l .halted) (l .ram) (l .journal) (l .at .next) (l .at .held) _ _ _ _ (q .result) _ _ _ _ _ _ _ _ (c .before .before .before .before .before .before .before .before .before .before .before .before .before .before .before .before .before .before .before .before .if1 .left) (c .before .before .before .before .before .before .before .before .before .before .before .before .before .before .before .before .before .before .before .if2 .left) (omega (arith, q .ok)) (q .ensures) (c .before .before .before .before .before .before .before .before .before .before .before .before .before .before .before .before .encode .ensures) (p .ensures) (a .ensures) (l .inv .0), q .kept .1 .1 .0 ∙ l .inv .1, a .kept .0 ∙ p .kept .0 ∙ l .inv .2)
 
 same-length : tie.Need-same-length Inv-loop μ-loop
 same-length c = search needs

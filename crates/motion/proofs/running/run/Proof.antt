@@ -32,7 +32,22 @@ same-length-2 : tie.Need-same-length-2
 same-length-2 c = search needs
 
 returns-2 : tie.Need-returns-2
-returns-2 c = ran-as (c .before .before .before .before .before .before .before .before .before .before .before .before .before .before .before .before .before .args .m) (now (c .before .before .before .before .before .before .before .before .before .before .before .before .before .before .before .before .before .args .ram)) (now (c .before .before .before .before .before .before .before .before .before .before .before .before .before .before .before .before .before .args .journal)) _ (c .before .before .before .before .before .before .before .before .before .before .before .before .before .before .check-of .ensures) (c .before .before .before .before .before .before .before .before .before .before .before .before .before .if1 .left) (c .before .before .before .before .before .before .before .before .before .before .before .before .before .before .before .before .before .args .budget) (c .before .before .before .before .before .before .before .before .advance .result) _ _ (rw (c .before .before .before .before .before .before .before .before .before .before .before .place-of .ensures) at (c .before .before .before .before .before .before .before .before .advance .ensures)) ∙ rw (c .machine-of .ensures)
+returns-2 c =
+    ran-as
+    (c .before .before .before .before .before .before .before .before .before .before .before .before .before .before .before .before .before .before .before .before .before .before .args .m)
+    (now (c .before .before .before .before .before .before .before .before .before .before .before .before .before .before .before .before .before .before .before .before .before .before .args .ram))
+    (now (c .before .before .before .before .before .before .before .before .before .before .before .before .before .before .before .before .before .before .before .before .before .before .args .journal))
+    _
+    (c .before .before .before .before .before .before .before .before .before .before .before .before .before .before .before .before .before .before .before .check-of .ensures)
+    (c .before .before .before .before .before .before .before .before .before .before .before .before .before .before .before .before .before .before .if1 .left)
+    (c .before .before .before .before .before .before .before .before .before .before .before .before .before .before .before .before .before .before .before .before .before .before .args .budget)
+    (c .before .before .before .before .before .before .before .before .advance .result)
+    _
+    _
+    _
+    _
+    (rw (c .before .before .before .before .before .before .before .before .before .before .before .place-of .ensures) at (c .before .before .before .before .before .before .before .before .advance .ensures))
+    ∙ rw (c .machine-of .ensures)
 
 pub run-spec : {M : Type 1} → statement M
 run-spec =
