@@ -10,7 +10,7 @@ pub enum Header {
 }
 
 // A digit of either case; 16 where it is none.
-fn hex_value(b: u8) -> u16
+pub fn hex_value(b: u8) -> u16
     ensures { λ r. ⌜ r ≡ hexValue b ⌝ }
     ensures { λ r. ⌜ r ≤ 16 ⌝ }
 {
@@ -36,7 +36,7 @@ fn hex_value(b: u8) -> u16
 }
 
 // Four hexadecimal digits and a newline.
-pub(crate) fn read_header(input: &[u8]) -> Header
+pub fn read_header(input: &[u8]) -> Header
     ensures { λ r. ⌜ r ≡ headerOf (now (input .entry)) ⌝ }
 {
     if input.len() < 5 {

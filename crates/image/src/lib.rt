@@ -1,5 +1,5 @@
 // The listing program's output for its input, but for reading and writing.
-mod header;
+pub mod header;
 mod lines;
 
 use crate::header::Header;

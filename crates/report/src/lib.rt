@@ -1,4 +1,4 @@
-// What the vector programs print with: pieces of lines, and the digest that stands for many results. No contract can say what is written.
+// What the desk and the vector programs print with: pieces of lines, and the digest that stands for many results. No contract can say what is written.
 use libc::STDOUT_FILENO;
 ghost use mathlib.Core.Path.{_≡_};
 ghost use Prim.Native.Nat.{_+_, _*_, _%_};

@@ -1,0 +1,143 @@
+// What a command changed: registers, status registers, devices, bytes of memory.
+use crate::rows;
+use bus::state::Cpu;
+use bus::state::Devices;
+use commands::words;
+use machine::state::Machine;
+ghost use mathlib.Core.Path.{_≡_};
+ghost use lib.ListN.{length};
+
+// The registers with a fixed name by it.
+pub fn register_name(n: usize) {
+    match n {
+        11 => report::text(b"sp"),
+        12 => report::text(b"ca"),
+        13 => report::text(b"ia"),
+        14 => report::text(b"f"),
+        15 => report::text(b"pc"),
+        _ => {
+            report::text(b"r");
+            report::decimal(n as u64);
+        }
+    }
+}
+
+fn from_to(old: u16, new: u16, width: usize) {
+    report::space();
+    report::hex(old as u64, width);
+    report::text(b" -> ");
+    report::hex(new as u64, width);
+    report::end();
+}
+
+fn register(n: usize, old: u16, new: u16) {
+    if old != new {
+        report::text(b"  ");
+        register_name(n);
+        from_to(old, new, 4);
+    }
+}
+
+fn registers(old: &[u16; 16], new: &[u16; 16]) {
+    let mut i: usize = 0;
+    while i < 16 {
+        register(i, old[i], new[i]);
+        i += 1;
+    }
+}
+
+fn status_register(n: usize, old: u16, new: u16) {
+    if old != new {
+        report::text(b"  csr");
+        report::decimal(n as u64);
+        from_to(old, new, 4);
+    }
+}
+
+fn status_registers(old: &[u16; 6], new: &[u16; 6]) {
+    let mut i: usize = 0;
+    while i < 6 {
+        status_register(i, old[i], new[i]);
+        i += 1;
+    }
+}
+
+fn named(name: &[u8], old: u16, new: u16, width: usize) {
+    if old != new {
+        report::text(b"  ");
+        report::text(name);
+        from_to(old, new, width);
+    }
+}
+
+fn mark(b: bool) -> u16 {
+    if b { 1 } else { 0 }
+}
+
+fn devices(old: Devices, new: Devices) {
+    named(b"clock", old.clock, new.clock, 4);
+    named(b"RXD", old.rxd as u16, new.rxd as u16, 2);
+    named(b"TXD", old.txd as u16, new.txd as u16, 2);
+    named(b"R", mark(old.r), mark(new.r), 1);
+    named(b"T", mark(old.t), mark(new.t), 1);
+}
+
+fn one_byte(at: usize, old: u8, new: u8) {
+    report::text(b"  [");
+    report::hex(at as u64, 4);
+    report::text(b"]");
+    from_to(old as u16, new as u16, 2);
+}
+
+// One byte: whether it changed, so many having changed before it. The first ones are shown, the others counted; the copy takes them all.
+fn memory_byte(old: &mut [u8], at: usize, new: u8, before: usize) -> usize {
+    let was = words::byte_at(old, at);
+    if was == new {
+        return before;
+    }
+    rows::put(old, at, new);
+    if before < 32 {
+        one_byte(at, was, new);
+    }
+    if before < 100000 {
+        return before + 1;
+    }
+    before
+}
+
+// How many bytes changed.
+fn memory(ram: &[u8], old: &mut [u8]) -> usize {
+    let mut n: usize = 0;
+    let mut i: usize = 0;
+    while i < ram.len() {
+        n = memory_byte(old, i, ram[i], n);
+        i += 1;
+    }
+    n
+}
+
+// What differs between the machine before and after, and between the copy and the memory.
+pub fn show(before: Machine, after: Machine, ram: &[u8], old: &mut [u8]) {
+    let a = before.cpu;
+    let b = after.cpu;
+    processor(a, b);
+    let n = memory(ram, old);
+    if 32 < n {
+        report::text(b"  and ");
+        report::decimal((n - 32) as u64);
+        report::text(b" more bytes of memory\n");
+    }
+}
+
+fn processor(a: Cpu, b: Cpu) {
+    let g = a.regs;
+    let h = b.regs;
+    registers(&g, &h);
+    let j = a.csrs;
+    let k = b.csrs;
+    status_registers(&j, &k);
+    let v = a.devices;
+    let w = b.devices;
+    devices(v, w);
+    named(b"halted", mark(a.halted), mark(b.halted), 1);
+}

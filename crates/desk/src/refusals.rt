@@ -1,0 +1,37 @@
+// What the numbered refusals mean, in words.
+use crate::texts;
+use machine::state::Refusal;
+
+// The lines stand for the numbers from 0 on.
+fn meaning(n: u8) {
+    texts::line(
+        b"accepted
+the RAM is longer than 65,504 bytes
+the journal is no multiple of 32 words, or over 32,768
+the state does not fit the journal, or csr0 is over 511
+the machine is halted (register f 0 revives it)
+the keyboard is not ready: R is 1 for a key, or T is 1 for sent
+there is no such register
+this is no RAM address
+no record is held to step back to
+the newest record is damaged
+the opcode is none
+there is no room for the text
+the line is not: word, blanks, word, comma, word
+unknown or unimplemented mnemonic
+operand unknown or of the wrong kind
+",
+        n,
+    );
+}
+
+pub fn say(n: u8) {
+    report::text(b"refused ");
+    report::decimal(n as u64);
+    report::text(b": ");
+    meaning(n);
+}
+
+pub fn refused(why: Refusal) {
+    say(machine::state::number(why));
+}

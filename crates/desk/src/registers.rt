@@ -1,0 +1,168 @@
+// register and csr.
+use crate::changes;
+use crate::inputs;
+use crate::state::Desk;
+use crate::values;
+use commands::numbers;
+use commands::numbers::Read;
+use commands::words;
+use isa::register::Csr;
+use isa::register::FoundCsr;
+use isa::register::FoundReg;
+use isa::register::Reg;
+
+// A number below 16, or 16 where the word is no such number.
+fn index(word: &[u8]) -> u8 {
+    let r = numbers::number(word);
+    match r {
+        Read::Is(v) => {
+            if v.bits < 16 {
+                return v.bits as u8;
+            }
+            16
+        }
+        Read::Bad | Read::TooLarge => 16,
+    }
+}
+
+// A register's number by its index, name or alias; 16 where there is none.
+fn register_number(word: &[u8]) -> u8 {
+    let f = Reg::from_name(word);
+    match f {
+        FoundReg::Is(r) => r.number,
+        FoundReg::Unknown => index(word),
+    }
+}
+
+fn csr_number(word: &[u8]) -> u8 {
+    let f = Csr::from_name(word);
+    match f {
+        FoundCsr::Is(c) => c.number,
+        FoundCsr::Unknown => index(word),
+    }
+}
+
+fn one_register(n: usize, value: u16) {
+    changes::register_name(n);
+    report::space();
+    report::hex(value as u64, 4);
+}
+
+// After the fourth of a row a line's end, else two blanks.
+fn between(n: usize) {
+    if n % 4 == 3 {
+        report::end();
+    } else {
+        report::text(b"  ");
+    }
+}
+
+fn all_registers(regs: &[u16; 16]) {
+    let mut i: usize = 0;
+    while i < 16 {
+        one_register(i, regs[i]);
+        between(i);
+        i += 1;
+    }
+}
+
+fn show_register(d: Desk, n: u8) {
+    let m = d.machine;
+    let c = m.cpu;
+    let regs = c.regs;
+    let i = n as usize;
+    if i < 16 {
+        one_register(i, regs[i]);
+        report::end();
+    }
+}
+
+fn show_registers(d: Desk) {
+    let m = d.machine;
+    let c = m.cpu;
+    let regs = c.regs;
+    all_registers(&regs);
+}
+
+// register [NAME [VALUE]]
+pub fn register(
+    d: Desk,
+    line: &[u8],
+    at: usize,
+    ram: &mut [u8],
+    old: &mut [u8],
+    journal: &mut [u16],
+) -> Desk {
+    let p = words::next(line, at);
+    let from = p.from;
+    let to = p.to;
+    if from == to {
+        show_registers(d);
+        return d;
+    }
+    let n = register_number(&line[from..to]);
+    if 15 < n {
+        values::complain(b"no such register", &line[from..to]);
+        return d;
+    }
+    let v = values::only(line, to, 0);
+    if v.is_bad {
+        return d;
+    }
+    if !v.is_given {
+        show_register(d, n);
+        return d;
+    }
+    let m = d.machine;
+    let r = machine::inputs::set_register(m, ram, journal, n, v.value);
+    let g = inputs::given(m, r);
+    let after = g.machine;
+    inputs::shown(d, after, ram, old)
+}
+
+// csr6 to csr15 read 0.
+fn csr_value(csrs: &[u16; 6], n: usize) -> u16 {
+    if n < 6 {
+        return csrs[n];
+    }
+    0
+}
+
+fn one_csr(csrs: &[u16; 6], n: usize) {
+    report::text(b"csr");
+    report::decimal(n as u64);
+    report::space();
+    report::hex(csr_value(csrs, n) as u64, 4);
+}
+
+fn all_csrs(csrs: &[u16; 6]) {
+    let mut i: usize = 0;
+    while i < 16 {
+        one_csr(csrs, i);
+        between(i);
+        i += 1;
+    }
+}
+
+// csr [NAME]
+pub fn csr(d: Desk, line: &[u8], at: usize) {
+    let m = d.machine;
+    let c = m.cpu;
+    let csrs = c.csrs;
+    let p = words::next(line, at);
+    let from = p.from;
+    let to = p.to;
+    if from == to {
+        all_csrs(&csrs);
+        return;
+    }
+    let n = csr_number(&line[from..to]);
+    if 15 < n {
+        values::complain(b"no such status register", &line[from..to]);
+        return;
+    }
+    if values::is_end(line, to) {
+        one_csr(&csrs, n as usize);
+        report::end();
+    }
+}
