@@ -80,7 +80,11 @@ fn one_key(m: Machine, b: u8, ram: &mut [u8], journal: &mut [u16]) -> Outcome {
     given(m, r)
 }
 
+// Of several bytes, how many went in before the one that was refused.
 fn received(n: usize, of: usize) {
+    if of < 2 {
+        return;
+    }
     report::decimal(n as u64);
     report::text(b" of ");
     report::decimal(of as u64);

@@ -12,7 +12,7 @@ the state does not fit the journal, or csr0 is over 511
 the machine is halted (register f 0 revives it)
 the keyboard is not ready: R is 1 for a key, or T is 1 for sent
 there is no such register
-this is no RAM address
+not all of it is in RAM; nothing was stored
 no record is held to step back to
 the newest record is damaged
 the opcode is none

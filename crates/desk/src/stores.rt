@@ -115,9 +115,6 @@ pub fn fits(at: u16, n: usize, ram: usize) -> bool {
         }
     }
     refusals::say(7);
-    report::text(b"nothing was stored: the RAM has ");
-    report::decimal(ram as u64);
-    report::text(b" bytes\n");
     false
 }
 
