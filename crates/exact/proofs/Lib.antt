@@ -2,3 +2,5 @@ pub mod Records
 pub mod Lawful
 pub mod Single
 pub mod Seen
+pub mod Counts
+pub mod Places

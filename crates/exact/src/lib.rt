@@ -1,1 +1,1 @@
-// No code of its own: what the calls' promises come to together stands in specs/Demand3.antt and is proved in proofs/.
+// No code of its own: what the calls' promises come to together stands in specs/ and is proved in proofs/.
