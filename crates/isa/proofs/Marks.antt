@@ -1,24 +1,24 @@
--- The mark of a key tells the one opcode that can have the key, since no two names share a mark.
+-- The mark of a key tells the one opcode that can have the key, since no two names share a mark; what the matches on marks tell.
 use mathlib.Core.Path.{_≡_, refl, sym, ap, _∙_}
-use mathlib.Core.Bool.{Bool, true, false, cond}
+use mathlib.Core.Bool.{Bool, true, false, cond, not, _&&_}
 use mathlib.Core.List.{List, [], _∷_}
-use Prim.Native.Nat.{ℕ, zero, suc, _<_}
+use Prim.Native.Nat.{ℕ, zero, suc, _≤_, _<_}
 use mathlib.Core.Logic.{⊎-elim}
 use native.Mathlib.Nat.{le-of-suc-le-suc, eq-or-lt-of-le}
 use native.Mathlib.Omega.{arith}
-use borrow.Author.Tests.{eq-eqb, ne-eqb, eqb-true, ltb-true}
-use lib.Dec.{eqb, ltb}
+use borrow.Author.Tests.{eq-eqb, ne-eqb, eqb-true, ltb-true, ltb-false, le-leb}
+use lib.Dec.{eqb, leb, ltb}
 use lib.ListN.{getD, length}
 use Rattle.isa.specs.Names.{spells, placeIn}
 use Rattle.isa.specs.Opcode.{meaning, givesReason2, images, mnemonics}
-use Rattle.isa.specs.Table.{pack, keyOf, nameOf, TellsAll, markOf, CanOnlyBe}
+use Rattle.isa.specs.Table.{keyAt, keyOf, nameOf, TellsAll, markOf, CanOnlyBe}
 use Rattle.isa.proofs.Lists.{agree, ranged}
 use Rattle.isa.proofs.Keyed.{Bytes, tidy, same-eq, key-spells}
 use Rattle.isa.proofs.Tables.{mnemonic-at, told-name}
 use Rattle.isa.proofs.Spelling.{mnemonic-some}
 
-abbrev pub mark : ℕ → ℕ
-mark o = markOf (pack (meaning o .name))
+abbrev mark : ℕ → ℕ
+mark o = markOf (keyAt o)
 
 -- ---- no two share one
 
@@ -37,41 +37,56 @@ marks-apart = refl
 met : (o : ℕ) → o < 256 → givesReason2 o ≡ false → firstIn marks (mark o) ≡ o
 met o h g = rw g at (agree 0 (λ o. cond (givesReason2 o) 0 (firstIn marks (mark o))) (λ o. cond (givesReason2 o) 0 o) 256 marks-apart o h)
 
--- v is the mark of the opcode p
-only : (p v : ℕ) → p < 256 → givesReason2 p ≡ false → mark p ≡ v → (key : ℕ) → markOf key ≡ v → CanOnlyBe key p
+-- ---- the arms of the matches
+
+-- what is promised of a row
+abbrev Fit : ℕ → ℕ → ℕ → ℕ → Type 0
+Fit first v opcode entry = (nameOf entry ≡ keyAt opcode) × CanOnlyBe first v opcode
+
+-- an arm: v is the mark of the opcode p
+pub row : (table : List ℕ) → TellsAll table → (first v p : ℕ) → p < 256 → givesReason2 p ≡ false → v ≡ mark p → Fit first v p (getD table p 0)
 unfolding CanOnlyBe
-only p v h g m key e o l n q = sym (met p h g) ∙ ap (firstIn marks) (m ∙ sym e ∙ sym q) ∙ met o l n
+row table t first v p h g m = (told-name table t p h, λ o f l n q. sym (met p h g) ∙ ap (firstIn marks) (sym m ∙ sym q) ∙ met o l n)
 
--- an arm of the match
-pub row : (table : List ℕ) → TellsAll table → (p v : ℕ) → p < 256 → givesReason2 p ≡ false → mark p ≡ v → (key : ℕ) → markOf key ≡ v → (nameOf (getD table p 0) ≡ pack (meaning p .name)) × CanOnlyBe key p
-row table t p v h g m key e = (told-name table t p h, only p v h g m key e)
+-- a last arm: v is none of the marks of the opcodes from `first` on and below n, the last one first
+abbrev marksFrom : ℕ → ℕ → List ℕ
+marksFrom first zero = []
+marksFrom first (suc n) = cond (leb first n && not (givesReason2 n)) (mark n ∷ marksFrom first n) (marksFrom first n)
 
--- ---- and the last arm: no opcode's name has the mark
-
--- the marks of the opcodes below n, the last one first, and a number that is none of those in a list
-abbrev pub below : (ℕ → Bool) → (ℕ → ℕ) → ℕ → List ℕ
-below skips f zero = []
-below skips f (suc n) = cond (skips n) (below skips f n) (f n ∷ below skips f n)
-
-abbrev pub None : ℕ → List ℕ → Type 0
+abbrev None : ℕ → List ℕ → Type 0
 None v [] = Unit {0}
 None v (x ∷ xs) = None v xs × (v ≡ x → ⊥)
 
-none-below : (skips : ℕ → Bool) (f : ℕ → ℕ) (v n : ℕ) → None v (below skips f n) → (o : ℕ) → o < n → skips o ≡ false → f o ≡ v → ⊥
-none-below skips f v zero r o l s e = omega arith
-none-below skips f v (suc n) r o l s e = go (skips n) refl r (λ t h. none-below skips f v n t o h s e)
+none-has : (first v n : ℕ) → None v (marksFrom first n) → (o : ℕ) → first ≤ o → o < n → givesReason2 o ≡ false → mark o ≡ v → ⊥
+none-has first v zero r o f l g e = omega arith
+none-has first v (suc n) r o f l g e = go (leb first n && not (givesReason2 n)) refl r (λ t h. none-has first v n t o f h g e)
   where
-    go : (b : Bool) → skips n ≡ b → None v (cond b (below skips f n) (f n ∷ below skips f n)) → (None v (below skips f n) → o < n → ⊥) → ⊥
-    go true q r on =
+    here : leb first o && not (givesReason2 o) ≡ true
+    here = rw (le-leb first o f, g)
+
+    go : (b : Bool) → leb first n && not (givesReason2 n) ≡ b → None v (cond b (mark n ∷ marksFrom first n) (marksFrom first n)) → (None v (marksFrom first n) → o < n → ⊥) → ⊥
+    go false q r on =
         ⊎-elim
-        (λ i. let z : _≡_ {A = Bool} true false = sym q ∙ ap skips (sym i) ∙ s in let y : _≡_ {A = ℕ} 0 1 = cc in omega arith)
+        (λ i. let z : _≡_ {A = Bool} false true = sym q ∙ ap (λ (k : ℕ). leb first k && not (givesReason2 k)) (sym i) ∙ here in let y : _≡_ {A = ℕ} 0 1 = cc in omega arith)
         (λ h. on r h)
         (eq-or-lt-of-le (le-of-suc-le-suc l))
-    go false q r on = ⊎-elim (λ i. r .1 (sym e ∙ ap f i)) (λ h. on (r .0) h) (eq-or-lt-of-le (le-of-suc-le-suc l))
+    go true q r on = ⊎-elim (λ i. r .1 (sym e ∙ ap mark i)) (λ h. on (r .0) h) (eq-or-lt-of-le (le-of-suc-le-suc l))
 
-pub no-row : (table : List ℕ) → TellsAll table → (key : ℕ) → None (markOf key) (below givesReason2 mark 256) → (nameOf (getD table 13 0) ≡ pack (meaning 13 .name)) × CanOnlyBe key 13
+pub no-row : (table : List ℕ) → TellsAll table → (first v p : ℕ) → p < 256 → None v (marksFrom first 256) → Fit first v p (getD table p 0)
 unfolding CanOnlyBe
-no-row table t key r = (told-name table t 13 (omega arith), λ o l n q. absurd (none-below givesReason2 mark (markOf key) 256 r o l n q))
+no-row table t first v p h r = (told-name table t p h, λ o f l g e. absurd (none-has first v 256 r o f l g e))
+
+-- or it goes on to the opcodes from `next` on
+on-from : (first next v p : ℕ) → ((o : ℕ) → first ≤ o → o < next → givesReason2 o ≡ false → mark o ≡ v → ⊥) → CanOnlyBe next v p → CanOnlyBe first v p
+unfolding CanOnlyBe
+on-from first next v p none f o b l g e = go (ltb o next) refl
+  where
+    go : (t : Bool) → ltb o next ≡ t → p ≡ o
+    go true q = absurd (none o b (ltb-true o next q) g e)
+    go false q = f o (ltb-false o next q) l g e
+
+pub next-row : (first next v p entry : ℕ) → None v (marksFrom first next) → Fit next v p entry → Fit first v p entry
+next-row first next v p entry r f = (f .0, on-from first next v p (none-has first v next r) (f .1))
 
 -- ---- so the opcode that can have a key, and that has it, is the one that the word names; if it has it not, the word names none
 
@@ -108,13 +123,13 @@ unfolding mnemonics
 mnemonics-long = refl
 
 module _ (w : List ℕ) (bw : Bytes w) (p : ℕ) where
-  pub found : p < 256 → pack (meaning p .name) ≡ keyOf w → placeIn mnemonics w ≡ p
+  pub found : p < 256 → keyAt p ≡ keyOf w → placeIn mnemonics w ≡ p
   found h e =
       let s : spells w (meaning p .name) ≡ true = sym (key-spells w bw (meaning p .name) (names-tidy p h)) ∙ eq-eqb _ _ e in
       let q = agree 0 (λ k. placeIn mnemonics (meaning k .name)) (λ k. cond (givesReason2 k) 256 k) 256 names-placed p h in
       ap (placeIn mnemonics) (spells-eq w (meaning p .name) s) ∙ q ∙ ap (λ (b : Bool). cond b 256 p) (spelt-named w p h s)
 
-  pub missed : CanOnlyBe (keyOf w) p → (pack (meaning p .name) ≡ keyOf w → ⊥) → ltb (placeIn mnemonics w) 256 ≡ false
+  pub missed : CanOnlyBe 0 (markOf (keyOf w)) p → (keyAt p ≡ keyOf w → ⊥) → ltb (placeIn mnemonics w) 256 ≡ false
   unfolding CanOnlyBe
   missed o n = go (ltb (placeIn mnemonics w) 256) refl
     where
@@ -124,8 +139,8 @@ module _ (w : List ℕ) (bw : Bytes w) (p : ℕ) where
       at : k < 256 → ⊥
       at l =
           let s : spells w (meaning k .name) ≡ true = ap (spells w) (sym (mnemonic-at k l)) ∙ placed-spelt mnemonics w (rw mnemonics-long l) in
-          let e : pack (meaning k .name) ≡ keyOf w = eqb-true _ _ (key-spells w bw (meaning k .name) (names-tidy k l) ∙ s) in
-          n (ap (λ (x : ℕ). pack (meaning x .name)) (o k l (spelt-named w k l s) (ap markOf e)) ∙ e)
+          let e : keyAt k ≡ keyOf w = eqb-true _ _ (key-spells w bw (meaning k .name) (names-tidy k l) ∙ s) in
+          n (ap keyAt (o k (omega arith) l (spelt-named w k l s) (ap markOf e)) ∙ e)
 
       go : (b : Bool) → ltb k 256 ≡ b → ltb k 256 ≡ false
       go true q = absurd (at (ltb-true k 256 q))

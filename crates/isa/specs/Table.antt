@@ -1,6 +1,6 @@
 -- How the decode table keeps an opcode's meaning: one number of 64 bits, the mnemonic's bytes below, the operation's number in the top byte.
 -- What an opcode means stands in Opcode and what a name stands for in Names; here is only how numbers keep them.
-use Prim.Native.Nat.{ℕ, suc, _+_, _*_, _/_, _%_, _^_, _<_}
+use Prim.Native.Nat.{ℕ, suc, _+_, _*_, _/_, _%_, _^_, _≤_, _<_}
 use mathlib.Core.Bool.{Bool, true, false, cond, _&&_}
 use mathlib.Core.List.{List, [], _∷_, map}
 use mathlib.Core.Path.{_≡_}
@@ -94,10 +94,14 @@ toldOf opcode = record { name = pack (meaning opcode .name); op = meaning opcode
 unfoldable pub TellsAll : List ℕ → Type 0
 TellsAll table = map told table ≡ images toldOf 0 256
 
--- the mark of a key, which no two names share
-unfoldable pub markOf : ℕ → ℕ
-markOf key = bitOr (key % 938964 % 187) 256
+-- the key of an opcode's mnemonic
+abbrev pub keyAt : ℕ → ℕ
+keyAt opcode = pack (meaning opcode .name)
 
--- no other opcode's name has the key's mark
-unfoldable pub CanOnlyBe : ℕ → ℕ → Type 0
-CanOnlyBe key opcode = (o : ℕ) → o < 256 → givesReason2 o ≡ false → markOf (pack (meaning o .name)) ≡ markOf key → opcode ≡ o
+-- the mark of a key, which no two mnemonics share
+unfoldable pub markOf : ℕ → ℕ
+markOf key = bitOr (key % 12561598 % 163) 256
+
+-- no other opcode from `first` on has a mnemonic with the mark
+unfoldable pub CanOnlyBe : ℕ → ℕ → ℕ → Type 0
+CanOnlyBe first mark opcode = (o : ℕ) → first ≤ o → o < 256 → givesReason2 o ≡ false → markOf (keyAt o) ≡ mark → opcode ≡ o

@@ -8,7 +8,7 @@ ghost use mathlib.Core.List.{_++_};
 ghost use lib.ListN.{getD};
 ghost use Rattle.isa.specs.Names.{bytes};
 ghost use Rattle.isa.specs.Opcode.{meaning, plain, reason2, conditionName, opcodeNamed};
-ghost use Rattle.isa.specs.Table.{pack, nameOf, TellsAll, CanOnlyBe};
+ghost use Rattle.isa.specs.Table.{pack, keyAt, nameOf, TellsAll, markOf, CanOnlyBe};
 
 pub enum MoveOp {
     Csrr,
@@ -474,90 +474,135 @@ pub fn mnemonic(opcode: u8) -> u64
     }
 }
 
-// The one opcode that a name with this key can have, and what the table says of it: no two mnemonics give the match the same number. An entry is
-// read at a constant place, so that the compiler keeps the table and does not write it anew; with bit 8 set it keeps the match as a table too.
-fn candidate(key: u64) -> Row
-    ensures { λ r. ⌜ nameOf (r .1) ≡ pack (meaning (r .0) .name) ⌝ }
-    ensures { λ r. ⌜ CanOnlyBe key (r .0) ⌝ }
+// The divisors that make a key's mark. Each mnemonic has another mark; so would `mulss`, `mulsu`, `mulus` and `muluu` have, with 292, 399, 353 and 294.
+const SPREAD: u64 = 12561598;
+
+const ROOM: u64 = 163;
+
+// The mark of a key. With bit 8 set the compiler keeps a match on it as a table.
+fn mark(key: u64) -> u64
+    ensures { λ r. ⌜ r ≡ markOf key ⌝ }
+{
+    (key % SPREAD % ROOM) | 256
+}
+
+// The row of the mnemonic that has the mark, or a row of no name: here the opcodes below 30, in three more functions those under a condition. The
+// compiler makes one table of the four matches. An entry is read at a constant place, so that the compiler keeps `TABLE` and does not write it anew.
+fn plain_row(mark: u64) -> Row
+    ensures { λ r. ⌜ nameOf (r .1) ≡ keyAt (r .0) ⌝ }
+    ensures { λ r. ⌜ CanOnlyBe 0 mark (r .0) ⌝ }
 {
     let entries = table();
-    match (key % 938964 % 187) | 256 {
-        386 => Row(0, entries[0]),
-        260 => Row(1, entries[1]),
-        389 => Row(2, entries[2]),
-        346 => Row(3, entries[3]),
-        319 => Row(4, entries[4]),
-        390 => Row(5, entries[5]),
-        422 => Row(6, entries[6]),
-        355 => Row(7, entries[7]),
-        268 => Row(8, entries[8]),
-        300 => Row(9, entries[9]),
-        345 => Row(10, entries[10]),
-        323 => Row(11, entries[11]),
-        261 => Row(12, entries[12]),
-        279 => Row(14, entries[14]),
-        314 => Row(16, entries[16]),
-        379 => Row(17, entries[17]),
-        307 => Row(18, entries[18]),
+    match mark {
+        401 => Row(0, entries[0]),
+        384 => Row(1, entries[1]),
+        336 => Row(2, entries[2]),
+        394 => Row(3, entries[3]),
+        296 => Row(4, entries[4]),
+        368 => Row(5, entries[5]),
+        314 => Row(6, entries[6]),
+        415 => Row(7, entries[7]),
+        395 => Row(8, entries[8]),
+        341 => Row(9, entries[9]),
+        373 => Row(10, entries[10]),
+        375 => Row(11, entries[11]),
+        331 => Row(12, entries[12]),
+        418 => Row(14, entries[14]),
+        276 => Row(16, entries[16]),
+        374 => Row(17, entries[17]),
+        365 => Row(18, entries[18]),
         262 => Row(19, entries[19]),
-        257 => Row(20, entries[20]),
-        271 => Row(21, entries[21]),
-        335 => Row(22, entries[22]),
-        396 => Row(23, entries[23]),
-        381 => Row(24, entries[24]),
-        417 => Row(25, entries[25]),
-        376 => Row(26, entries[26]),
-        353 => Row(27, entries[27]),
-        327 => Row(28, entries[28]),
-        361 => Row(29, entries[29]),
-        441 => Row(144, entries[144]),
-        354 => Row(145, entries[145]),
-        267 => Row(146, entries[146]),
-        330 => Row(147, entries[147]),
-        391 => Row(148, entries[148]),
-        292 => Row(149, entries[149]),
-        317 => Row(150, entries[150]),
-        339 => Row(151, entries[151]),
-        368 => Row(152, entries[152]),
-        400 => Row(153, entries[153]),
-        432 => Row(154, entries[154]),
-        277 => Row(155, entries[155]),
-        256 => Row(156, entries[156]),
-        409 => Row(157, entries[157]),
-        402 => Row(158, entries[158]),
-        282 => Row(159, entries[159]),
-        299 => Row(160, entries[160]),
-        399 => Row(161, entries[161]),
-        312 => Row(162, entries[162]),
-        412 => Row(163, entries[163]),
-        333 => Row(164, entries[164]),
-        421 => Row(165, entries[165]),
-        259 => Row(166, entries[166]),
-        318 => Row(167, entries[167]),
-        310 => Row(168, entries[168]),
-        342 => Row(169, entries[169]),
-        374 => Row(170, entries[170]),
-        406 => Row(171, entries[171]),
-        382 => Row(172, entries[172]),
-        348 => Row(173, entries[173]),
-        341 => Row(174, entries[174]),
-        408 => Row(175, entries[175]),
-        375 => Row(192, entries[192]),
-        288 => Row(193, entries[193]),
-        388 => Row(194, entries[194]),
-        264 => Row(195, entries[195]),
-        325 => Row(196, entries[196]),
-        413 => Row(197, entries[197]),
-        438 => Row(198, entries[198]),
-        273 => Row(199, entries[199]),
-        302 => Row(200, entries[200]),
-        334 => Row(201, entries[201]),
-        366 => Row(202, entries[202]),
-        398 => Row(203, entries[203]),
-        377 => Row(204, entries[204]),
-        343 => Row(205, entries[205]),
-        336 => Row(206, entries[206]),
-        403 => Row(207, entries[207]),
+        269 => Row(20, entries[20]),
+        370 => Row(21, entries[21]),
+        326 => Row(22, entries[22]),
+        306 => Row(23, entries[23]),
+        333 => Row(24, entries[24]),
+        312 => Row(25, entries[25]),
+        266 => Row(26, entries[26]),
+        414 => Row(27, entries[27]),
+        410 => Row(28, entries[28]),
+        348 => Row(29, entries[29]),
+        _ => ld_row(mark),
+    }
+}
+
+// The same for the opcodes from 0x90 on.
+fn ld_row(mark: u64) -> Row
+    ensures { λ r. ⌜ nameOf (r .1) ≡ keyAt (r .0) ⌝ }
+    ensures { λ r. ⌜ CanOnlyBe 144 mark (r .0) ⌝ }
+{
+    let entries = table();
+    match mark {
+        307 => Row(144, entries[144]),
+        359 => Row(145, entries[145]),
+        411 => Row(146, entries[146]),
+        300 => Row(147, entries[147]),
+        344 => Row(148, entries[148]),
+        400 => Row(149, entries[149]),
+        381 => Row(150, entries[150]),
+        265 => Row(151, entries[151]),
+        364 => Row(152, entries[152]),
+        313 => Row(153, entries[153]),
+        259 => Row(154, entries[154]),
+        371 => Row(155, entries[155]),
+        289 => Row(156, entries[156]),
+        385 => Row(157, entries[157]),
+        382 => Row(158, entries[158]),
+        342 => Row(159, entries[159]),
+        _ => ld_is_row(mark),
+    }
+}
+
+// The same for the opcodes from 0xa0 on.
+fn ld_is_row(mark: u64) -> Row
+    ensures { λ r. ⌜ nameOf (r .1) ≡ keyAt (r .0) ⌝ }
+    ensures { λ r. ⌜ CanOnlyBe 160 mark (r .0) ⌝ }
+{
+    let entries = table();
+    match mark {
+        386 => Row(160, entries[160]),
+        275 => Row(161, entries[161]),
+        327 => Row(162, entries[162]),
+        379 => Row(163, entries[163]),
+        340 => Row(164, entries[164]),
+        396 => Row(165, entries[165]),
+        380 => Row(166, entries[166]),
+        261 => Row(167, entries[167]),
+        360 => Row(168, entries[168]),
+        309 => Row(169, entries[169]),
+        258 => Row(170, entries[170]),
+        367 => Row(171, entries[171]),
+        350 => Row(172, entries[172]),
+        283 => Row(173, entries[173]),
+        280 => Row(174, entries[174]),
+        403 => Row(175, entries[175]),
+        _ => mv_row(mark),
+    }
+}
+
+// The same for the opcodes from 0xc0 on.
+fn mv_row(mark: u64) -> Row
+    ensures { λ r. ⌜ nameOf (r .1) ≡ keyAt (r .0) ⌝ }
+    ensures { λ r. ⌜ CanOnlyBe 192 mark (r .0) ⌝ }
+{
+    let entries = table();
+    match mark {
+        352 => Row(192, entries[192]),
+        404 => Row(193, entries[193]),
+        293 => Row(194, entries[194]),
+        345 => Row(195, entries[195]),
+        389 => Row(196, entries[196]),
+        282 => Row(197, entries[197]),
+        263 => Row(198, entries[198]),
+        310 => Row(199, entries[199]),
+        409 => Row(200, entries[200]),
+        358 => Row(201, entries[201]),
+        304 => Row(202, entries[202]),
+        416 => Row(203, entries[203]),
+        334 => Row(204, entries[204]),
+        267 => Row(205, entries[205]),
+        264 => Row(206, entries[206]),
+        387 => Row(207, entries[207]),
         _ => Row(13, entries[13]),
     }
 }
@@ -567,7 +612,7 @@ pub fn named(name: &[u8]) -> FoundOpcode
     ensures { λ r. ⌜ r ≡ opcodeNamed (now (name .entry)) ⌝ }
 {
     let key = keys::key(name);
-    let row = candidate(key);
+    let row = plain_row(mark(key));
     if keys::name(row.1) == key {
         FoundOpcode::Is(row.0)
     } else {
