@@ -153,7 +153,7 @@ fn sought(word: &[u8], short: &[u8], all: &[u8]) -> Found {
 
 // The command that a word names. The short names are those of MB50's debugger; a minus sign stands where a command has none.
 pub fn find(word: &[u8]) -> Found {
-    if words::is_name(word, b"b") {
+    if words::is_name(word, b"b") | words::is_name(word, b"break") {
         return Found::Break;
     }
     if words::is_name(word, b"-") {

@@ -10,6 +10,7 @@ ghost use Prim.Native.Nat.{_≤_};
 pub struct Value {
     pub bits: u16,
     pub is_word: bool,
+    pub is_negative: bool,
 }
 
 pub enum Read {
@@ -136,11 +137,13 @@ fn signed(d: Figures, base: u32, is_negative: bool) -> Read {
         return Read::Is(Value {
             bits: ((65536 - v) % 65536) as u16,
             is_word: true,
+            is_negative: true,
         });
     }
     Read::Is(Value {
         bits: v as u16,
         is_word: (255 < v) | (in_a_byte(base) < d.count),
+        is_negative: false,
     })
 }
 
@@ -181,6 +184,7 @@ fn character(word: &[u8]) -> Read {
     Read::Is(Value {
         bits: halves::join(two[0], two[1]),
         is_word: n == 2,
+        is_negative: false,
     })
 }
 

@@ -1,7 +1,9 @@
 // What the desk is started with: desk [--ram N] [--slots N] [IMAGE.bin]
+use crate::values;
 use commands::numbers;
 use commands::numbers::Read;
 use commands::words;
+ghost use Prim.Native.Nat.{_≤_, _<_};
 
 pub struct Settings {
     pub ram: usize,
@@ -11,10 +13,12 @@ pub struct Settings {
     pub is_good: bool,
 }
 
-fn bad(s: Settings, what: &[u8]) -> Settings {
+fn bad(s: Settings, what: &[u8], i: usize) -> Settings {
+    let mut room = io::buffer();
+    let n = os::arg(i, &mut room);
     report::text(b"desk: ");
-    report::text(what);
-    report::text(b"\nusage: desk [--ram N] [--slots N] [IMAGE.bin]\n");
+    values::complain(what, &room[0..n]);
+    report::text(b"usage: desk [--ram N] [--slots N] [IMAGE.bin]\n");
     let mut e = s;
     e.is_good = false;
     e
@@ -26,7 +30,12 @@ fn number_in(i: usize) -> u16 {
     let n = os::arg(i, &mut room);
     let r = numbers::number(&room[0..n]);
     match r {
-        Read::Is(v) => v.bits,
+        Read::Is(v) => {
+            if v.is_negative {
+                return 65535;
+            }
+            v.bits
+        }
         Read::Bad | Read::TooLarge => 65535,
     }
 }
@@ -34,7 +43,7 @@ fn number_in(i: usize) -> u16 {
 fn with_ram(s: Settings, i: usize) -> Settings {
     let n = number_in(i);
     if 65504 < n {
-        return bad(s, b"--ram needs a number of bytes from 0 to 65504");
+        return bad(s, b"--ram needs a number of bytes from 0 to 65504", i);
     }
     let mut e = s;
     e.ram = n as usize;
@@ -44,7 +53,7 @@ fn with_ram(s: Settings, i: usize) -> Settings {
 fn with_slots(s: Settings, i: usize) -> Settings {
     let n = number_in(i);
     if 1024 < n {
-        return bad(s, b"--slots needs a number from 0 to 1024");
+        return bad(s, b"--slots needs a number from 0 to 1024", i);
     }
     let mut e = s;
     e.words = n as usize * 32;
@@ -53,7 +62,7 @@ fn with_slots(s: Settings, i: usize) -> Settings {
 
 fn with_image(s: Settings, i: usize) -> Settings {
     if s.image != 0 {
-        return bad(s, b"there is more than one image");
+        return bad(s, b"there is more than one image", i);
     }
     let mut e = s;
     e.image = i;
@@ -77,12 +86,34 @@ fn option(i: usize) -> u8 {
     0
 }
 
-fn with_option(s: Settings, kind: u8, i: usize) -> Settings {
+// One argument that is no number.
+fn with_argument(s: Settings, kind: u8, i: usize) -> Settings {
     match kind {
-        1 => with_ram(s, i),
-        2 => with_slots(s, i),
-        _ => bad(s, b"there is no such option"),
+        1 => with_ram(s, next(i)),
+        2 => with_slots(s, next(i)),
+        3 => bad(s, b"there is no such option", i),
+        _ => with_image(s, i),
     }
+}
+
+fn next(i: usize) -> usize {
+    if i < 1000000 {
+        return i + 1;
+    }
+    i
+}
+
+// The next argument that is no number: an option has one after it.
+fn following(i: usize, n: usize, kind: u8) -> usize
+    requires { ⌜ i < n ⌝ }
+    ensures { λ r. ⌜ (i < r) × (r ≤ n) ⌝ }
+{
+    if kind != 0 {
+        if i + 1 < n {
+            return i + 2;
+        }
+    }
+    i + 1
 }
 
 pub fn read() -> Settings {
@@ -96,15 +127,11 @@ pub fn read() -> Settings {
     let mut i: usize = 1;
     while i < n {
         let kind = option(i);
-        i += 1;
-        if kind == 0 {
-            s = with_image(s, i - 1);
-        } else {
-            s = with_option(s, kind, i);
-            if i < n {
-                i += 1;
-            }
+        s = with_argument(s, kind, i);
+        if !s.is_good {
+            return s;
         }
+        i = following(i, n, kind);
     }
     s
 }

@@ -1,5 +1,6 @@
 // What a command changed: registers, status registers, devices, bytes of memory.
 use crate::rows;
+use crate::status;
 use bus::state::Cpu;
 use bus::state::Devices;
 use commands::words;
@@ -30,56 +31,68 @@ fn from_to(old: u16, new: u16, width: usize) {
     report::end();
 }
 
-fn register(n: usize, old: u16, new: u16) {
+// Each of these shows what changed, and answers whether anything did.
+fn register(n: usize, old: u16, new: u16) -> bool {
     if old != new {
         report::text(b"  ");
         register_name(n);
         from_to(old, new, 4);
+        return true;
     }
+    false
 }
 
-fn registers(old: &[u16; 16], new: &[u16; 16]) {
+fn registers(old: &[u16; 16], new: &[u16; 16]) -> bool {
+    let mut any = false;
     let mut i: usize = 0;
     while i < 16 {
-        register(i, old[i], new[i]);
+        any = any | register(i, old[i], new[i]);
         i += 1;
     }
+    any
 }
 
-fn status_register(n: usize, old: u16, new: u16) {
+fn status_register(n: usize, old: u16, new: u16) -> bool {
     if old != new {
         report::text(b"  csr");
         report::decimal(n as u64);
         from_to(old, new, 4);
+        return true;
     }
+    false
 }
 
-fn status_registers(old: &[u16; 6], new: &[u16; 6]) {
+fn status_registers(old: &[u16; 6], new: &[u16; 6]) -> bool {
+    let mut any = false;
     let mut i: usize = 0;
     while i < 6 {
-        status_register(i, old[i], new[i]);
+        any = any | status_register(i, old[i], new[i]);
         i += 1;
     }
+    any
 }
 
-fn named(name: &[u8], old: u16, new: u16, width: usize) {
+fn named(name: &[u8], old: u16, new: u16, width: usize) -> bool {
     if old != new {
         report::text(b"  ");
         report::text(name);
         from_to(old, new, width);
+        return true;
     }
+    false
 }
 
-fn mark(b: bool) -> u16 {
+pub fn mark(b: bool) -> u16 {
     if b { 1 } else { 0 }
 }
 
-fn devices(old: Devices, new: Devices) {
-    named(b"clock", old.clock, new.clock, 4);
-    named(b"RXD", old.rxd as u16, new.rxd as u16, 2);
-    named(b"TXD", old.txd as u16, new.txd as u16, 2);
-    named(b"R", mark(old.r), mark(new.r), 1);
-    named(b"T", mark(old.t), mark(new.t), 1);
+fn devices(old: Devices, new: Devices) -> bool {
+    let c = named(b"clock", old.clock, new.clock, 4);
+    let x = named(b"RXD", old.rxd as u16, new.rxd as u16, 2);
+    let y = named(b"TXD", old.txd as u16, new.txd as u16, 2);
+    let r = named(b"R", mark(old.r), mark(new.r), 1);
+    let t = named(b"T", mark(old.t), mark(new.t), 1);
+    c | (x | (y | (r | t)))
 }
 
 fn one_byte(at: usize, old: u8, new: u8) {
@@ -116,28 +129,35 @@ fn memory(ram: &[u8], old: &mut [u8]) -> usize {
     n
 }
 
+fn processor(a: Cpu, b: Cpu) -> bool {
+    let g = a.regs;
+    let h = b.regs;
+    let of_registers = registers(&g, &h);
+    let j = a.csrs;
+    let k = b.csrs;
+    let of_csrs = status_registers(&j, &k);
+    let v = a.devices;
+    let w = b.devices;
+    let of_devices = devices(v, w);
+    let of_mark = named(b"halted", mark(a.halted), mark(b.halted), 1);
+    of_registers | (of_csrs | (of_devices | of_mark))
+}
+
 // What differs between the machine before and after, and between the copy and the memory.
 pub fn show(before: Machine, after: Machine, ram: &[u8], old: &mut [u8]) {
     let a = before.cpu;
     let b = after.cpu;
-    processor(a, b);
+    let any = processor(a, b);
     let n = memory(ram, old);
     if 32 < n {
         report::text(b"  and ");
-        report::decimal((n - 32) as u64);
-        report::text(b" more bytes of memory\n");
+        status::count(
+            (n - 32) as u64,
+            b"more byte of memory\n",
+            b"more bytes of memory\n",
+        );
     }
-}
-
-fn processor(a: Cpu, b: Cpu) {
-    let g = a.regs;
-    let h = b.regs;
-    registers(&g, &h);
-    let j = a.csrs;
-    let k = b.csrs;
-    status_registers(&j, &k);
-    let v = a.devices;
-    let w = b.devices;
-    devices(v, w);
-    named(b"halted", mark(a.halted), mark(b.halted), 1);
+    if !any & (n == 0) {
+        report::text(b"  no change\n");
+    }
 }

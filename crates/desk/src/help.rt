@@ -21,7 +21,7 @@ fn show(n: u8, is_long: bool) {
         b"assemble ADDR LINE       pokes the two bytes of an instruction
     The line is an instruction as list shows it: assemble 0x100 mv r1, r2
 back [N]                 takes back the last step or input, or N of them
-    Registers, status registers, devices and memory are as they were before it.
+    Short: ba. Registers, status registers, devices and memory are as they were before it.
 csr [NAME]               shows a status register, or all
     A name is csr0 to csr15, or a number. Programs set them; the debugger does not.
 do FILE                  does the commands in a file
@@ -86,13 +86,24 @@ pub fn brief(line: &[u8], at: usize) {
     }
 }
 
+// Why a word names no command.
+pub fn unfound(f: Found, word: &[u8]) {
+    match f {
+        Found::Ambiguous => {
+            values::complain(b"more than one command begins so (? lists them)", word);
+        }
+        Found::Break => values::complain(b"there is no break yet (ba is back)", word),
+        Found::Unknown | Found::Is(_) => {
+            values::complain(b"no such command (? lists them)", word);
+        }
+    }
+}
+
 fn one(word: &[u8]) {
     let f = names::find(word);
     match f {
         Found::Is(c) => show(names::number(c), true),
-        Found::Unknown | Found::Ambiguous | Found::Break => {
-            values::complain(b"no such command (? lists them)", word);
-        }
+        Found::Unknown | Found::Ambiguous | Found::Break => unfound(f, word),
     }
 }
 

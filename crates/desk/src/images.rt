@@ -89,7 +89,7 @@ fn is_in_ram(at: u16, n: usize, ram: usize, path: &[u8]) -> bool {
             return true;
         }
     }
-    values::complain(b"the file is too long for the RAM", path);
+    values::complain(b"not all of its bytes would be in RAM", path);
     false
 }
 
@@ -261,13 +261,14 @@ fn size_given(line: &[u8], a: values::Taken) -> values::Taken {
 
 fn save_stretch(path: &[u8], at: u16, n: usize, ram: &[u8]) {
     let from = at as usize;
-    if from <= ram.len() {
+    if from < ram.len() {
         if n <= ram.len() - from {
             save_to(path, at, &ram[from..from + n]);
             return;
         }
     }
-    report::text(b"nothing was saved: the RAM has ");
-    report::decimal(ram.len() as u64);
-    report::text(b" bytes\n");
+    values::complain(
+        b"not all of these addresses are RAM; nothing was saved",
+        path,
+    );
 }

@@ -42,6 +42,15 @@ pub fn shown(d: Desk, after: Machine, ram: &[u8], old: &mut [u8]) -> Desk {
     state::with_machine(d, after)
 }
 
+// One input: what it changed, unless it was refused.
+pub fn finished(d: Desk, g: Outcome, ram: &[u8], old: &mut [u8]) -> Desk {
+    if g.is_refused {
+        return d;
+    }
+    let after = g.machine;
+    shown(d, after, ram, old)
+}
+
 fn ticks(m: Machine, n: u16, ram: &mut [u8], journal: &mut [u16]) -> Machine {
     let mut g = m;
     let mut i: u16 = 0;
@@ -70,6 +79,10 @@ pub fn tick(
     if n.is_bad {
         return d;
     }
+    if n.value == 0 {
+        report::text(b"0 ticks: nothing was done\n");
+        return d;
+    }
     let m = d.machine;
     let after = ticks(m, n.value, ram, journal);
     shown(d, after, ram, old)
@@ -91,7 +104,8 @@ fn received(n: usize, of: usize) {
     report::text(b" bytes were received\n");
 }
 
-fn keys(m: Machine, bytes: &[u8], ram: &mut [u8], journal: &mut [u16]) -> Machine {
+// Refused is what was refused at its first byte.
+fn keys(m: Machine, bytes: &[u8], ram: &mut [u8], journal: &mut [u16]) -> Outcome {
     let mut g = m;
     let mut i: usize = 0;
     while i < bytes.len() {
@@ -99,11 +113,17 @@ fn keys(m: Machine, bytes: &[u8], ram: &mut [u8], journal: &mut [u16]) -> Machin
         g = after.machine;
         if after.is_refused {
             received(i, bytes.len());
-            return g;
+            return Outcome {
+                machine: g,
+                is_refused: i == 0,
+            };
         }
         i += 1;
     }
-    g
+    Outcome {
+        machine: g,
+        is_refused: false,
+    }
 }
 
 // key BYTE..
@@ -125,7 +145,7 @@ pub fn key(
     }
     let m = d.machine;
     let after = keys(m, &room[0..n], ram, journal);
-    shown(d, after, ram, old)
+    finished(d, after, ram, old)
 }
 
 // sent
@@ -142,9 +162,7 @@ pub fn sent(
     }
     let m = d.machine;
     let r = inputs::sent(m, ram, journal);
-    let g = given(m, r);
-    let after = g.machine;
-    shown(d, after, ram, old)
+    finished(d, given(m, r), ram, old)
 }
 
 // reset
@@ -161,7 +179,5 @@ pub fn reset(
     }
     let m = d.machine;
     let r = inputs::reset(m, ram, journal);
-    let g = given(m, r);
-    let after = g.machine;
-    shown(d, after, ram, old)
+    finished(d, given(m, r), ram, old)
 }

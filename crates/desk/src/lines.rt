@@ -1,5 +1,6 @@
 // Lines from a file or a terminal.
 use crate::rows;
+use commands::words;
 
 // How many bytes the line has.
 pub enum Line {
@@ -22,9 +23,16 @@ fn wide(b: u8) -> u16 {
     b as u16
 }
 
-fn ended(n: usize, read: usize) -> Line {
+// A line that has ended; a carriage return before its end is no part of it.
+fn ended(line: &[u8], n: usize, read: usize) -> Line {
     if n < read {
         return Line::TooLong;
+    }
+    if n == 0 {
+        return Line::Is(0);
+    }
+    if words::byte_at(line, n - 1) == b'\r' {
+        return Line::Is(n - 1);
     }
     Line::Is(n)
 }
@@ -36,13 +44,13 @@ pub fn read(file: i32, out: &mut [u8]) -> Line {
     while i < 1000000 {
         let b = byte(file);
         if b == 10 {
-            return ended(n, i);
+            return ended(out, n, i);
         }
         if 255 < b {
             if i == 0 {
                 return Line::End;
             }
-            return ended(n, i);
+            return ended(out, n, i);
         }
         n = rows::put(out, n, b as u8);
         i += 1;

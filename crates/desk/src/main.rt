@@ -21,6 +21,7 @@ mod texts;
 mod values;
 
 use arguments::Settings;
+use libc::STDERR_FILENO;
 use lines::Line;
 use state::Desk;
 ghost use mathlib.Core.Path.{_≡_};
@@ -95,7 +96,21 @@ fn begin(s: Settings, ram: &mut [u8], old: &mut [u8], journal: &mut [u16]) {
     session(state::opened(), ram, old, journal);
 }
 
+// Where a standard descriptor is closed, a file would be opened in its place, and written over: so the empty device is.
+fn hold_standard() {
+    let mut i: u8 = 0;
+    while i < 3 {
+        let file = os::open_read(b"/dev/null");
+        if STDERR_FILENO < file {
+            libc::close(file);
+            return;
+        }
+        i += 1;
+    }
+}
+
 fn main() {
+    hold_standard();
     let s = arguments::read();
     let bytes = s.ram;
     let words = s.words;

@@ -112,11 +112,6 @@ fn obey(
     }
 }
 
-fn unknown(d: Desk, what: &[u8], word: &[u8]) -> Desk {
-    values::complain(what, word);
-    d
-}
-
 // A line: a command, or nothing, or a remark that begins with #.
 pub fn perform(d: Desk, line: &[u8], ram: &mut [u8], old: &mut [u8], journal: &mut [u16]) -> Desk {
     let p = words::next(line, 0);
@@ -131,12 +126,9 @@ pub fn perform(d: Desk, line: &[u8], ram: &mut [u8], old: &mut [u8], journal: &m
     let f = names::find(&line[from..to]);
     match f {
         Found::Is(c) => obey(d, c, line, to, ram, old, journal),
-        Found::Unknown => unknown(d, b"no such command (? lists them)", &line[from..to]),
-        Found::Ambiguous => unknown(
-            d,
-            b"more than one command begins so (? lists them)",
-            &line[from..to],
-        ),
-        Found::Break => unknown(d, b"break is not here; back is `ba`", &line[from..to]),
+        Found::Unknown | Found::Ambiguous | Found::Break => {
+            help::unfound(f, &line[from..to]);
+            d
+        }
     }
 }

@@ -25,7 +25,11 @@ operand unknown or of the wrong kind
     );
 }
 
+// The refusal of a number; 0 is none.
 pub fn say(n: u8) {
+    if n == 0 {
+        return;
+    }
     report::text(b"refused ");
     report::decimal(n as u64);
     report::text(b": ");

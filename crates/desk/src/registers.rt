@@ -2,10 +2,13 @@
 use crate::changes;
 use crate::inputs;
 use crate::state::Desk;
+use crate::status;
 use crate::values;
+use bus::state::Devices;
 use commands::numbers;
 use commands::numbers::Read;
 use commands::words;
+use isa::register;
 use isa::register::Csr;
 use isa::register::FoundCsr;
 use isa::register::FoundReg;
@@ -42,9 +45,14 @@ fn csr_number(word: &[u8]) -> u8 {
     }
 }
 
+// A name and blanks up to the width of the longest.
 fn one_register(n: usize, value: u16) {
     changes::register_name(n);
-    report::space();
+    match n {
+        10 => report::space(),
+        14 => report::text(b"   "),
+        _ => report::text(b"  "),
+    }
     report::hex(value as u64, 4);
 }
 
@@ -77,11 +85,31 @@ fn show_register(d: Desk, n: u8) {
     }
 }
 
+// What the debugger shows beside the registers: the flags, the devices, the halted mark.
+fn show_devices(v: Devices, f: u16, halted: bool) {
+    report::text(b"flags ");
+    status::flags(f);
+    one_device(b"  clock ", v.clock, 4);
+    one_device(b"  RXD ", v.rxd as u16, 2);
+    one_device(b"  TXD ", v.txd as u16, 2);
+    one_device(b"  R ", changes::mark(v.r), 1);
+    one_device(b"  T ", changes::mark(v.t), 1);
+    one_device(b"  halted ", changes::mark(halted), 1);
+    report::end();
+}
+
+fn one_device(name: &[u8], value: u16, width: usize) {
+    report::text(name);
+    report::hex(value as u64, width);
+}
+
 fn show_registers(d: Desk) {
     let m = d.machine;
     let c = m.cpu;
     let regs = c.regs;
     all_registers(&regs);
+    let v = c.devices;
+    show_devices(v, regs[register::F], c.halted);
 }
 
 // register [NAME [VALUE]]
@@ -105,7 +133,7 @@ pub fn register(
         values::complain(b"no such register", &line[from..to]);
         return d;
     }
-    let v = values::only(line, to, 0);
+    let v = values::last(line, to, 0, true);
     if v.is_bad {
         return d;
     }
@@ -115,9 +143,7 @@ pub fn register(
     }
     let m = d.machine;
     let r = machine::inputs::set_register(m, ram, journal, n, v.value);
-    let g = inputs::given(m, r);
-    let after = g.machine;
-    inputs::shown(d, after, ram, old)
+    inputs::finished(d, inputs::given(m, r), ram, old)
 }
 
 // csr6 to csr15 read 0.
@@ -131,6 +157,9 @@ fn csr_value(csrs: &[u16; 6], n: usize) -> u16 {
 fn one_csr(csrs: &[u16; 6], n: usize) {
     report::text(b"csr");
     report::decimal(n as u64);
+    if n < 10 {
+        report::space();
+    }
     report::space();
     report::hex(csr_value(csrs, n) as u64, 4);
 }

@@ -4,6 +4,8 @@ use crate::state;
 use crate::state::Desk;
 use crate::values;
 use commands::words;
+use libc::SEEK_END;
+use libc::SEEK_SET;
 
 // Commands come from the file until it ends; then they come from where this one came from.
 fn entered(d: Desk, path: &[u8]) -> Desk {
@@ -12,7 +14,23 @@ fn entered(d: Desk, path: &[u8]) -> Desk {
         values::complain(b"the file cannot be opened", path);
         return d;
     }
+    if !is_readable(file) {
+        values::complain(b"the file is empty or cannot be read", path);
+        libc::close(file);
+        return d;
+    }
     state::entered(d, file)
+}
+
+// Whether there is a byte to read. Where that can be told only by reading, as of a pipe, there is one.
+fn is_readable(file: i32) -> bool {
+    let mut none = [0u8; 1];
+    if libc::read(file, &mut none[0..0]) < 0 {
+        return false;
+    }
+    let size = libc::lseek(file, 0, SEEK_END);
+    libc::lseek(file, 0, SEEK_SET);
+    size != 0
 }
 
 // do FILE

@@ -193,11 +193,11 @@ pub fn step(
     steps(d, n.value - 1, ram, old, journal)
 }
 
-// Steps back, and whether one was refused.
+// Steps back, and the number of the refusal that ended them, or 0.
 struct Undone {
     machine: Machine,
     steps: u64,
-    is_refused: bool,
+    refusal: u8,
 }
 
 fn one_back(b: Undone, ram: &mut [u8], journal: &[u16]) -> Undone {
@@ -206,18 +206,15 @@ fn one_back(b: Undone, ram: &mut [u8], journal: &[u16]) -> Undone {
     let answer = r.answer;
     let after = r.machine;
     match answer {
-        Answer::Refused(why) => {
-            refusals::refused(why);
-            Undone {
-                machine: m,
-                steps: b.steps,
-                is_refused: true,
-            }
-        }
+        Answer::Refused(why) => Undone {
+            machine: m,
+            steps: b.steps,
+            refusal: machine::state::number(why),
+        },
         Answer::Accepted | Answer::Stepped(_) | Answer::Ran(_) => Undone {
             machine: after,
             steps: sum(b.steps, 1),
-            is_refused: false,
+            refusal: 0,
         },
     }
 }
@@ -226,12 +223,12 @@ fn backs(m: Machine, n: u16, ram: &mut [u8], journal: &[u16]) -> Undone {
     let mut b = Undone {
         machine: m,
         steps: 0,
-        is_refused: false,
+        refusal: 0,
     };
     let mut i: u16 = 0;
     while i < n {
         b = one_back(b, ram, journal);
-        if b.is_refused {
+        if b.refusal != 0 {
             return b;
         }
         i += 1;
@@ -254,8 +251,13 @@ pub fn step_back(
     }
     let m = d.machine;
     let b = backs(m, n.value, ram, journal);
+    if (b.steps == 0) & (b.refusal != 0) {
+        refusals::say(b.refusal);
+        return d;
+    }
     let after = b.machine;
     status::after_back(after, ram, b.steps);
     changes::show(m, after, ram, old);
+    refusals::say(b.refusal);
     state::with_machine(d, after)
 }

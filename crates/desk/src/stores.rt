@@ -27,11 +27,11 @@ fn bad(what: &[u8], word: &[u8]) -> Bytes {
 // A string's bytes, put at a place.
 fn string(word: &[u8], out: &mut [u8], at: usize) -> Bytes {
     if word.len() < 2 {
-        return bad(b"the string does not end", word);
+        return bad(b"not a string in double quotes", word);
     }
     let last = word.len() - 1;
     if word[last] != b'"' {
-        return bad(b"the string does not end", word);
+        return bad(b"not a string in double quotes", word);
     }
     if out.len() < at {
         return bad(b"too many bytes", word);
@@ -39,7 +39,7 @@ fn string(word: &[u8], out: &mut [u8], at: usize) -> Bytes {
     let b = constants::read(&word[1..last], b'"', &mut out[at..]);
     match b {
         constants::Bytes::Are(n) => placed(out, at, n),
-        constants::Bytes::Bad => bad(b"not a string", word),
+        constants::Bytes::Bad => bad(b"not a string in double quotes", word),
     }
 }
 
@@ -81,6 +81,10 @@ fn value(word: &[u8], out: &mut [u8], at: usize, words_too: bool) -> Bytes {
 
 // All values from a place of the line on, as bytes; there has to be one.
 pub fn read(line: &[u8], at: usize, out: &mut [u8], words_too: bool) -> Bytes {
+    if line.len() <= words::skip_blanks(line, at) {
+        report::text(b"a value is needed\n");
+        return Bytes::Bad;
+    }
     let mut n: usize = 0;
     let mut i = at;
     while i < line.len() {
@@ -98,10 +102,6 @@ pub fn read(line: &[u8], at: usize, out: &mut [u8], words_too: bool) -> Bytes {
             n = k;
         }
         i = to;
-    }
-    if n == 0 {
-        report::text(b"a value is needed\n");
-        return Bytes::Bad;
     }
     Bytes::Are(n)
 }

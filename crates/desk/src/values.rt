@@ -15,12 +15,12 @@ pub struct Taken {
 
 fn printable(b: u8) -> u8 {
     match b {
-        32..=126 => b,
-        _ => b'?',
+        0..=31 | 127 => b'?',
+        _ => b,
     }
 }
 
-// A word as it may be shown on a terminal: other bytes than the printable ones of ASCII as question marks.
+// A word as it may be shown on a terminal: control characters as question marks.
 pub fn show(word: &[u8]) {
     let mut i: usize = 0;
     while i < word.len() {
@@ -47,8 +47,12 @@ fn made(value: u16, is_given: bool, is_bad: bool, to: usize) -> Taken {
     }
 }
 
-// The number at a place, or another where the line ends there.
+// The number at a place, or another where the line ends there. Addresses and counts have no sign.
 pub fn number(line: &[u8], at: usize, otherwise: u16) -> Taken {
+    signed(line, at, otherwise, false)
+}
+
+fn signed(line: &[u8], at: usize, otherwise: u16, is_signed: bool) -> Taken {
     let p = words::next(line, at);
     let from = p.from;
     let to = p.to;
@@ -57,7 +61,13 @@ pub fn number(line: &[u8], at: usize, otherwise: u16) -> Taken {
     }
     let r = numbers::number(&line[from..to]);
     match r {
-        Read::Is(v) => made(v.bits, true, false, to),
+        Read::Is(v) => {
+            if v.is_negative & !is_signed {
+                complain(b"a number without a sign is needed", &line[from..to]);
+                return made(0, true, true, to);
+            }
+            made(v.bits, true, false, to)
+        }
         Read::Bad => {
             complain(b"not a number", &line[from..to]);
             made(0, true, true, to)
@@ -81,9 +91,14 @@ pub fn is_end(line: &[u8], at: usize) -> bool {
     false
 }
 
-// The only number of a command, or another where it is missing.
+// The last number of a command, or another where it is missing.
 pub fn only(line: &[u8], at: usize, otherwise: u16) -> Taken {
-    let t = number(line, at, otherwise);
+    last(line, at, otherwise, false)
+}
+
+// The same, with or without a sign.
+pub fn last(line: &[u8], at: usize, otherwise: u16, is_signed: bool) -> Taken {
+    let t = signed(line, at, otherwise, is_signed);
     if t.is_bad {
         return t;
     }

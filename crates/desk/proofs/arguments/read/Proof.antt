@@ -18,14 +18,14 @@ loop-holds c = search needs
 option-requires : tie.Need-option-requires Inv-loop μ-loop
 option-requires c κs = search needs
 
-add-i : tie.Need-add-i Inv-loop μ-loop
-add-i c = search needs
+with-argument-requires : tie.Need-with-argument-requires Inv-loop μ-loop
+with-argument-requires c κs = search needs
 
-sub-with-image : tie.Need-sub-with-image Inv-loop μ-loop
-sub-with-image c = search needs
+returns : tie.Need-returns Inv-loop μ-loop
+returns c = search needs
 
-with-image-requires : tie.Need-with-image-requires Inv-loop μ-loop
-with-image-requires c κs = search needs
+following-requires : tie.Need-following-requires Inv-loop μ-loop
+following-requires c κs = search needs
 
 loop-less : tie.Need-loop-less Inv-loop μ-loop
 loop-less c = search needs
@@ -33,26 +33,8 @@ loop-less c = search needs
 loop-again : tie.Need-loop-again Inv-loop μ-loop
 loop-again c = search needs
 
-with-option-requires : tie.Need-with-option-requires Inv-loop μ-loop
-with-option-requires c κs = search needs
-
-add-i-2 : tie.Need-add-i-2 Inv-loop μ-loop
-add-i-2 c = search needs
-
-loop-less-2 : tie.Need-loop-less-2 Inv-loop μ-loop
-loop-less-2 c = search needs
-
-loop-again-2 : tie.Need-loop-again-2 Inv-loop μ-loop
-loop-again-2 c = search needs
-
-loop-less-3 : tie.Need-loop-less-3 Inv-loop μ-loop
-loop-less-3 c = search needs
-
-loop-again-3 : tie.Need-loop-again-3 Inv-loop μ-loop
-loop-again-3 c = search needs
-
-returns : tie.Need-returns Inv-loop μ-loop
-returns c = search needs
+returns-2 : tie.Need-returns-2 Inv-loop μ-loop
+returns-2 c = search needs
 
 pub read-spec : {M : Type 1} → statement M
 read-spec =
@@ -63,15 +45,9 @@ read-spec =
     arg-count-requires
     loop-holds
     option-requires
-    add-i
-    sub-with-image
-    with-image-requires
+    with-argument-requires
+    returns
+    following-requires
     loop-less
     loop-again
-    with-option-requires
-    add-i-2
-    loop-less-2
-    loop-again-2
-    loop-less-3
-    loop-again-3
-    returns)
+    returns-2)

@@ -4,10 +4,10 @@ use Rattle.desk.proofs.changes.registers.Statement.{statement}
 use Rattle.desk.proofs.changes.registers.Tie as tie
 
 abbrev Inv-loop : tie.InvT-loop
-Inv-loop old new i₀ i = i ≤ 16
+Inv-loop old new any₀ i₀ any i = i ≤ 16
 
 abbrev μ-loop : tie.MeasureT-loop
-μ-loop old new i₀ i = 16 - i
+μ-loop old new any₀ i₀ any i = 16 - i
 
 loop-holds : tie.Need-loop-holds Inv-loop μ-loop
 loop-holds c = search needs

@@ -4,10 +4,10 @@ use Rattle.desk.proofs.changes.status_registers.Statement.{statement}
 use Rattle.desk.proofs.changes.status_registers.Tie as tie
 
 abbrev Inv-loop : tie.InvT-loop
-Inv-loop old new i₀ i = i ≤ 6
+Inv-loop old new any₀ i₀ any i = i ≤ 6
 
 abbrev μ-loop : tie.MeasureT-loop
-μ-loop old new i₀ i = 6 - i
+μ-loop old new any₀ i₀ any i = 6 - i
 
 loop-holds : tie.Need-loop-holds Inv-loop μ-loop
 loop-holds c = search needs

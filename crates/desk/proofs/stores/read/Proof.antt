@@ -6,10 +6,22 @@ use Rattle.desk.proofs.stores.read.Statement.{statement}
 use Rattle.desk.proofs.stores.read.Tie as tie
 
 abbrev Inv-loop : tie.InvT-loop
-Inv-loop line at out₀ words-too n₀ i₀ t12 out n i = length out ≡ length out₀
+Inv-loop line at out₀ words-too n₀ i₀ out n i = length out ≡ length out₀
 
 abbrev μ-loop : tie.MeasureT-loop
-μ-loop line at out₀ words-too n₀ i₀ t12 out n i = length line - i
+μ-loop line at out₀ words-too n₀ i₀ out n i = length line - i
+
+skip-blanks-requires : tie.Need-skip-blanks-requires Inv-loop μ-loop
+skip-blanks-requires c κs = search needs
+
+slice-aggregate-text : tie.Need-slice-aggregate-text Inv-loop μ-loop
+slice-aggregate-text c = search needs
+
+text-requires : tie.Need-text-requires Inv-loop μ-loop
+text-requires c κs = search needs
+
+returns : tie.Need-returns Inv-loop μ-loop
+returns c = search needs
 
 loop-holds : tie.Need-loop-holds Inv-loop μ-loop
 loop-holds c = search needs
@@ -20,8 +32,8 @@ next-requires c κs = search needs
 same-length : tie.Need-same-length Inv-loop μ-loop
 same-length c = search needs
 
-returns : tie.Need-returns Inv-loop μ-loop
-returns c = search needs
+returns-2 : tie.Need-returns-2 Inv-loop μ-loop
+returns-2 c = search needs
 
 sub-value : tie.Need-sub-value Inv-loop μ-loop
 sub-value c = search needs
@@ -44,8 +56,8 @@ enum-told c = search needs
 same-length-2 : tie.Need-same-length-2 Inv-loop μ-loop
 same-length-2 c = search needs
 
-returns-2 : tie.Need-returns-2 Inv-loop μ-loop
-returns-2 c = search needs
+returns-3 : tie.Need-returns-3 Inv-loop μ-loop
+returns-3 c = search needs
 
 loop-less : tie.Need-loop-less Inv-loop μ-loop
 loop-less c = search needs
@@ -59,20 +71,8 @@ loop-less-2 c = search needs
 loop-again-2 : tie.Need-loop-again-2 Inv-loop μ-loop
 loop-again-2 c = search needs
 
-slice-aggregate-text : tie.Need-slice-aggregate-text Inv-loop μ-loop
-slice-aggregate-text c = search needs
-
-text-requires : tie.Need-text-requires Inv-loop μ-loop
-text-requires c κs = search needs
-
 same-length-3 : tie.Need-same-length-3 Inv-loop μ-loop
 same-length-3 c = search needs
-
-returns-3 : tie.Need-returns-3 Inv-loop μ-loop
-returns-3 c = search needs
-
-same-length-4 : tie.Need-same-length-4 Inv-loop μ-loop
-same-length-4 c = search needs
 
 returns-4 : tie.Need-returns-4 Inv-loop μ-loop
 returns-4 c = search needs
@@ -83,10 +83,14 @@ read-spec =
     (tie.spec
     Inv-loop
     μ-loop
+    skip-blanks-requires
+    slice-aggregate-text
+    text-requires
+    returns
     loop-holds
     next-requires
     same-length
-    returns
+    returns-2
     sub-value
     part-value-start
     part-value-end
@@ -94,14 +98,10 @@ read-spec =
     enum-known-b
     enum-told
     same-length-2
-    returns-2
+    returns-3
     loop-less
     loop-again
     loop-less-2
     loop-again-2
-    slice-aggregate-text
-    text-requires
     same-length-3
-    returns-3
-    same-length-4
     returns-4)
