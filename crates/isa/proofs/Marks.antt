@@ -13,7 +13,7 @@ use Rattle.isa.specs.Names.{spells, placeIn}
 use Rattle.isa.specs.Opcode.{meaning, givesReason2, images, mnemonics}
 use Rattle.isa.specs.Table.{keyAt, keyOf, nameOf, TellsAll, markOf, CanOnlyBe}
 use Rattle.isa.proofs.Lists.{agree, ranged}
-use Rattle.isa.proofs.Keyed.{Bytes, tidy, same-eq, key-spells}
+use Rattle.isa.proofs.Keyed.{Bytes, tidy, key-spells, spells-eq}
 use Rattle.isa.proofs.Tables.{mnemonic-at, told-name}
 use Rattle.isa.proofs.Spelling.{mnemonic-some}
 
@@ -97,10 +97,6 @@ names-tidy k h = ranged (λ k. tidy (meaning k .name)) true 0 256 refl k (omega 
 names-placed : images (λ k. placeIn mnemonics (meaning k .name)) 0 256 ≡ images (λ k. cond (givesReason2 k) 256 k) 0 256
 unfolding mnemonics meaning
 names-placed = refl
-
-spells-eq : (w n : List ℕ) → spells w n ≡ true → w ≡ n
-spells-eq w [] e = let z : _≡_ {A = ℕ} 0 1 = cc in absurd (omega arith)
-spells-eq w (b ∷ n) e = same-eq w (b ∷ n) e
 
 spells-some : (w n : List ℕ) → spells w n ≡ true → eqb (length n) 0 ≡ false
 spells-some w [] e = let z : _≡_ {A = ℕ} 0 1 = cc in absurd (omega arith)
