@@ -18,37 +18,37 @@ abbrev pub flagsOf : Bool → Bool → Bool → Bool → ℕ
 flagsOf z c s o = cond z (2 ^ 4) 0 + cond c (2 ^ 5) 0 + cond s (2 ^ 6) 0 + cond o (2 ^ 7) 0
 
 -- "z to 1 if the result is zero"; "s to 1 if the result is negative (copies the highest bit of the result)"
-abbrev pub answerOf : ℕ → Bool → Bool → Answer
-answerOf v c o = record { value = v; flags = flagsOf (eqb v 0) c (bitAt v 15) o }
+abbrev pub answerWith : ℕ → Bool → Bool → Answer
+answerWith v c o = record { value = v; flags = flagsOf (eqb v 0) c (bitAt v 15) o }
 
 -- the answer that an outcome comes to
 abbrev pub answerAs : Outcome → Answer
-answerAs r = answerOf (r .value) (r .c) (r .o)
+answerAs r = answerWith (r .value) (r .c) (r .o)
 
 -- "c to the carry from the highest bit"; "o to 1 if a signed overflow occurs"
 unfoldable pub addOf : ℕ → ℕ → Answer
-addOf a b = answerOf (plusAt 16 a b) (leb (2 ^ 16) (a + b)) (sumOverflows 16 a b)
+addOf a b = answerWith (plusAt 16 a b) (leb (2 ^ 16) (a + b)) (sumOverflows 16 a b)
 
 -- "c to the borrow from the highest bit"
 unfoldable pub subOf : ℕ → ℕ → Answer
-subOf a b = answerOf (minusAt 16 a b) (ltb a b) (differenceOverflows 16 a b)
+subOf a b = answerWith (minusAt 16 a b) (ltb a b) (differenceOverflows 16 a b)
 
 -- "c to 0", "o to 0"
 unfoldable pub logicOf : ℕ → Answer
-logicOf v = answerOf v false false
+logicOf v = answerWith v false false
 
 -- by "the lowest 4 bits" of the second word; "c to the highest bit of the original value of dstr if shifting by 1 bit", and
 -- "Where the source calls c unspecified (count not 1), c=0"; "o to 1 if the operation changes the value of the highest bit"
 unfoldable pub shlOf : ℕ → ℕ → Answer
-shlOf a n = answerOf (shlAt 16 a n) (eqb n 1 && bitAt a 15) (xor (bitAt a 15) (bitAt (shlAt 16 a n) 15))
+shlOf a n = answerWith (shlAt 16 a n) (eqb n 1 && bitAt a 15) (xor (bitAt a 15) (bitAt (shlAt 16 a n) 15))
 
 -- "c to the lowest bit of the original value of dstr if shifting by 1 bit"
 unfoldable pub shrOf : ℕ → ℕ → Answer
-shrOf a n = answerOf (shrAt 16 a n) (eqb n 1 && bitAt a 0) (xor (bitAt a 15) (bitAt (shrAt 16 a n) 15))
+shrOf a n = answerWith (shrAt 16 a n) (eqb n 1 && bitAt a 0) (xor (bitAt a 15) (bitAt (shrAt 16 a n) 15))
 
 -- "shra has o=1 only for count 1 on 0xffff, else 0"
 unfoldable pub shraOf : ℕ → ℕ → Answer
-shraOf a n = answerOf (shraAt 16 a n) (eqb n 1 && bitAt a 0) (eqb n 1 && eqb a 0xffff)
+shraOf a n = answerWith (shraAt 16 a n) (eqb n 1 && bitAt a 0) (eqb n 1 && eqb a 0xffff)
 
 -- "Unary operations use the source register as the operand"; "Binary operations use the destination register as the first and the source
 -- register as the second operand"; "Shifts use the source's lowest 4 bits"

@@ -10,7 +10,7 @@ use Rattle.word.specs.Word.{above}
 use Rattle.word.proofs.Width.{low-below, high-below, join-below}
 use Rattle.bus.specs.State.{word, reset}
 use Rattle.bus.specs.Addresses.{deviceByte, byteAt, wordAt, deviceAfter, Bus, putByte, putWord}
-use Rattle.bus.specs.Good.{Within, GoodRegs, GoodCsrs, GoodDevices, Good}
+use Rattle.bus.specs.Good.{Within, GoodRegs, GoodCsrs, GoodDevices, GoodBoard, Good}
 use Rattle.bus.specs.declared.state.Devices.{Devices}
 
 -- what holds of both holds of the one that a test picks
@@ -78,7 +78,7 @@ module _ {v : Devices} {m : List ℕ} (gv : GoodDevices v) (gm : Within 8 m) whe
   word-in a = join-below 8 8 (byte-in a) (byte-in _)
 
 pub record GoodBus (u : Bus) : Type 0 where
-  pub devices : GoodDevices (u .devices)
+  pub board : GoodBoard (u .board)
   pub ram : Within 8 (u .ram)
 
 devices-after : {v : Devices} (a : ℕ) {b : ℕ} → GoodDevices v → b < 2 ^ 8 → GoodDevices (deviceAfter v a b)
@@ -91,8 +91,8 @@ devices-after {v} a {b} r h =
 pub byte-put : {u : Bus} (a : ℕ) {b : ℕ} → GoodBus u → b < 2 ^ 8 → GoodBus (putByte u a b)
 unfolding putByte
 byte-put {u} a r h =
-    picked GoodBus (ltb a (length (u .ram))) (record { devices = r .devices; ram = within-set 8 a (r .ram) h })
-    (record { devices = devices-after a (r .devices) h; ram = r .ram })
+    picked GoodBus (ltb a (length (u .ram))) (record { board = r .board; ram = within-set 8 a (r .ram) h })
+    (record { board = record { devices = devices-after a (r .board .devices) h }; ram = r .ram })
 
 pub word-put : {u : Bus} (a : ℕ) {w : ℕ} → GoodBus u → w < 2 ^ 16 → GoodBus (putWord u a w)
 unfolding putWord
@@ -104,7 +104,7 @@ unfolding reset
 reset-good = record {
   regs = record { long = refl; words = record { at = zeros 16 } };
   csrs = record { long = refl; words = record { at = zeros 6 }; csr0 = omega arith };
-  devices = record { clock = omega arith; rxd = omega arith; txd = omega arith };
+  board = record { devices = record { clock = omega arith; rxd = omega arith; txd = omega arith } };
 }
   where
     zeros : (n i : ℕ) → word (replicate n 0) i < 2 ^ 16

@@ -5,7 +5,9 @@ use Prim.Native.Nat.{ℕ, _+_}
 use lib.Dec.{ltb, eqb}
 use lib.ListN.{length, set}
 use Rattle.word.specs.Word.{above, joinAt, lowAt, highAt}
-use Rattle.bus.specs.State.{word, devices}
+use Rattle.word.specs.Memory.{byteIn}
+use Rattle.bus.specs.State.{devices, withDevices}
+use Rattle.bus.specs.declared.state.Board.{Board}
 use Rattle.bus.specs.declared.state.Devices.{Devices}
 
 -- "0xffe0 TXD (reads 0), 0xffe1 RXD, 0xffe2 READY (R in bit 0, T in bit 1), 0xfff0/0xfff1 clock low/high. Anything else reads 0"
@@ -19,7 +21,7 @@ deviceByte v a =
 
 -- "Addresses below the RAM length are RAM."
 unfoldable pub byteAt : Devices → List ℕ → ℕ → ℕ
-byteAt v m a = cond (ltb a (length m)) (word m a) (deviceByte v a)
+byteAt v m a = cond (ltb a (length m)) (byteIn m a) (deviceByte v a)
 
 -- "Low byte first; odd addresses are fine"
 unfoldable pub wordAt : Devices → List ℕ → ℕ → ℕ
@@ -39,21 +41,17 @@ deviceAfter v a b = cond (eqb a 0xffe0) (sending v b) (cond (eqb a 0xffe1) (ackn
 
 -- what a write reaches
 pub record Bus : Type 0 where
-  pub devices : Devices
+  pub board : Board
   pub ram : List ℕ
 
-abbrev pub bus : Devices → List ℕ → Bus
-bus v m = record { devices = v; ram = m }
+abbrev pub bus : Board → List ℕ → Bus
+bus b m = record { board = b; ram = m }
 
 unfoldable pub putByte : Bus → ℕ → ℕ → Bus
-putByte u a b =
-    cond (ltb a (length (u .ram))) (bus (u .devices) (set (u .ram) a b))
-    (bus (deviceAfter (u .devices) a b) (u .ram))
+putByte u a x =
+    cond (ltb a (length (u .ram))) (bus (u .board) (set (u .ram) a x))
+    (bus (withDevices (u .board) (deviceAfter (u .board .devices) a x)) (u .ram))
 
 -- "A word is written lower address first, then the next."
 unfoldable pub putWord : Bus → ℕ → ℕ → Bus
 putWord u a w = putByte (putByte u a (lowAt 8 w)) (above a) (highAt 8 w)
-
--- what n bytes written from address a on write over: "old first byte + 256·old second (0 where not RAM or not written)"
-unfoldable pub oldBytes : List ℕ → ℕ → ℕ → ℕ
-oldBytes m n a = cond (eqb n 0) 0 (joinAt 8 (word m a) (cond (eqb n 2) (word m (above a)) 0))

@@ -6,6 +6,7 @@ use lib.ListN.{length, set}
 use Rattle.word.specs.Word.{above}
 use Rattle.bus.specs.State.{word}
 use Rattle.bus.specs.declared.state.Cpu.{Cpu}
+use Rattle.bus.specs.declared.state.Board.{Board}
 use Rattle.bus.specs.declared.state.Devices.{Devices}
 
 -- every number of the list has k bits
@@ -26,10 +27,13 @@ pub record GoodDevices (v : Devices) : Type 0 where
   pub rxd : v .rxd < 2 ^ 8
   pub txd : v .txd < 2 ^ 8
 
+pub record GoodBoard (b : Board) : Type 0 where
+  pub devices : GoodDevices (b .devices)
+
 pub record Good (c : Cpu) : Type 0 where
   pub regs : GoodRegs (c .regs)
   pub csrs : GoodCsrs (c .csrs)
-  pub devices : GoodDevices (c .devices)
+  pub board : GoodBoard (c .board)
 
 -- what the memory m becomes by n bytes written from address a on: only those bytes change, and of them only those in RAM; with no byte a is 0
 pub data Changed (m : List ℕ) : ℕ → ℕ → List ℕ → Type 0 where

@@ -1,4 +1,5 @@
 // Addresses: RAM below its length, the device registers, and nothing else.
+use crate::state::Board;
 use crate::state::Devices;
 use word::choice;
 use word::halves;
@@ -69,20 +70,23 @@ fn device_after(v: Devices, a: u16, b: u8) -> Devices
     u
 }
 
-pub fn write_byte(v: Devices, ram: &mut [u8], a: u16, b: u8) -> Devices
-    ensures { λ r. ⌜ bus r (now (ram .exit)) ≡ putByte (bus v (now (ram .entry))) a b ⌝ }
+pub fn write_byte(b: Board, ram: &mut [u8], a: u16, x: u8) -> Board
+    ensures { λ r. ⌜ bus r (now (ram .exit)) ≡ putByte (bus b (now (ram .entry))) a x ⌝ }
 {
     let i = a as usize;
     if i < ram.len() {
-        ram[i] = b;
-        return v;
+        ram[i] = x;
+        return b;
     }
-    device_after(v, a, b)
+    let v = b.devices;
+    let mut u = b;
+    u.devices = device_after(v, a, x);
+    u
 }
 
-pub fn write_word(v: Devices, ram: &mut [u8], a: u16, w: u16) -> Devices
-    ensures { λ r. ⌜ bus r (now (ram .exit)) ≡ putWord (bus v (now (ram .entry))) a w ⌝ }
+pub fn write_word(b: Board, ram: &mut [u8], a: u16, w: u16) -> Board
+    ensures { λ r. ⌜ bus r (now (ram .exit)) ≡ putWord (bus b (now (ram .entry))) a w ⌝ }
 {
-    let u = write_byte(v, ram, a, halves::low(w));
+    let u = write_byte(b, ram, a, halves::low(w));
     write_byte(u, ram, sums::plus(a, 1), halves::high(w))
 }

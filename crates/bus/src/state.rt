@@ -11,11 +11,16 @@ pub struct Devices {
     pub t: bool,
 }
 
+// What the state has beside registers and CSRs. It goes through a step and a run as one value, so that a new part of it changes no function's parameters.
+pub struct Board {
+    pub devices: Devices,
+    pub halted: bool,
+}
+
 pub struct Cpu {
     pub regs: [u16; 16],
     pub csrs: [u16; 6],
-    pub devices: Devices,
-    pub halted: bool,
+    pub board: Board,
 }
 
 // The state at the start and after a reset.
@@ -25,13 +30,15 @@ pub fn reset() -> Cpu
     Cpu {
         regs: [0u16; 16],
         csrs: [0u16; 6],
-        devices: Devices {
-            clock: 0,
-            rxd: 0,
-            txd: 0,
-            r: false,
-            t: true,
+        board: Board {
+            devices: Devices {
+                clock: 0,
+                rxd: 0,
+                txd: 0,
+                r: false,
+                t: true,
+            },
+            halted: false,
         },
-        halted: false,
     }
 }

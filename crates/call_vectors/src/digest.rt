@@ -1,10 +1,10 @@
 // What a call answers and leaves, and the lent bytes and words, absorbed one by one.
-use advance::Run;
-use advance::Stop;
-use bus::state::Devices;
-use machine::state::Answer;
-use machine::state::Machine;
-use machine::state::Refusal;
+use bus::state::Board;
+use calls::state::Answer;
+use calls::state::Machine;
+use calls::state::Refusal;
+use calls::state::Run;
+use calls::state::Stop;
 use word::choice;
 use word::halves;
 
@@ -49,7 +49,7 @@ fn ran(h: u64, run: Run) -> u64 {
 }
 
 fn refused(h: u64, why: Refusal) -> u64 {
-    let number = machine::state::number(why);
+    let number = calls::state::number(why);
     numbers(h, number as u16, 0, 0, 0)
 }
 
@@ -62,20 +62,21 @@ fn answered(h: u64, answer: Answer) -> u64 {
     }
 }
 
-fn marks(v: Devices, halted: bool) -> u16 {
-    choice::weigh(v.r, 1) + choice::weigh(v.t, 2) + choice::weigh(halted, 4)
+fn marks(b: Board) -> u16 {
+    choice::weigh(b.devices.r, 1) + choice::weigh(b.devices.t, 2) + choice::weigh(b.halted, 4)
 }
 
 fn left(h: u64, m: Machine) -> u64 {
     let c = m.cpu;
     let regs = c.regs;
     let csrs = c.csrs;
-    let v = c.devices;
+    let b = c.board;
+    let v = b.devices;
     let g = words(h, &regs);
     let k = words(g, &csrs);
     let clock = report::absorb(k, v.clock);
     let keyboard = report::absorb(clock, halves::join(v.rxd, v.txd));
-    let bits = report::absorb(keyboard, marks(v, c.halted));
+    let bits = report::absorb(keyboard, marks(b));
     let next = report::absorb(bits, (m.next % 65536) as u16);
     report::absorb(next, (m.held % 65536) as u16)
 }

@@ -1,8 +1,8 @@
 // Makes the calls of the independent model's commands; the digests that it prints are compared with the model's.
 mod buffers;
-mod calls;
 mod commands;
 mod digest;
+mod requests;
 mod settings;
 mod state;
 
@@ -33,7 +33,7 @@ fn journal_room() -> [u16; 33000]
 
 fn obeyed(d: Desk, c: Command, ram: &mut [u8], journal: &mut [u16]) -> Desk {
     if c.kind < 9 {
-        return calls::made(d, c, ram, journal);
+        return requests::made(d, c, ram, journal);
     }
     settings::arranged(d, c, ram, journal)
 }
@@ -42,9 +42,10 @@ fn run(input: &[u8], ram: &mut [u8], journal: &mut [u16]) {
     let mut d = state::opened();
     let mut at = 0;
     while 6 <= input.len() - at {
-        let c = commands::read(&input[at..at + 6]);
+        let end = at + 6;
+        let c = commands::read(&input[at..end]);
         d = obeyed(d, c, ram, journal);
-        at = at + 6;
+        at = end;
     }
 }
 

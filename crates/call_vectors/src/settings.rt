@@ -5,7 +5,7 @@ use crate::digest;
 use crate::state;
 use crate::state::Desk;
 use bus::state::Cpu;
-use machine::state::Machine;
+use calls::state::Machine;
 use word::sums;
 
 fn with_cpu(m: Machine, cpu: Cpu) -> Machine {
@@ -35,7 +35,8 @@ fn with_register(c: Cpu, y: u8, w: u16) -> Cpu {
 
 fn with_halted(c: Cpu, y: u8) -> Cpu {
     let mut after = c;
-    after.halted = y % 2 == 1;
+    let halted = y % 2 == 1;
+    after.board.halted = halted;
     after
 }
 
@@ -88,7 +89,7 @@ fn with_journal(d: Desk, length: u16, most: usize) -> Desk {
 fn started(d: Desk, from: u8, ram: &mut [u8], journal: &mut [u16]) -> Desk {
     buffers::fill(ram, from);
     buffers::clear(journal);
-    let machine = machine::state::start();
+    let machine = calls::state::start();
     Desk {
         machine,
         digest: 1,

@@ -1,5 +1,5 @@
 // What stays from command to command, beside the buffers.
-use machine::state::Machine;
+use calls::state::Machine;
 ghost use Prim.Native.Nat.{_≤_};
 
 // The lengths are of the parts that are lent, from the beginnings of the buffers.
@@ -13,7 +13,7 @@ pub struct Desk {
 
 // Before the first command.
 pub fn opened() -> Desk {
-    let machine = machine::state::start();
+    let machine = calls::state::start();
     Desk {
         machine,
         digest: 1,

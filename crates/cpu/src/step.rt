@@ -1,7 +1,7 @@
 // One step.
 use crate::exceptions;
 use bus::address;
-use bus::state::Devices;
+use bus::state::Board;
 use instructions::computing;
 use instructions::loading;
 use instructions::moving;
@@ -13,14 +13,15 @@ use isa::register::PC;
 use word::sums;
 ghost use mathlib.Core.Path.{_≡_};
 ghost use Rattle.word.specs.Word.{lowAt, highAt};
+ghost use Rattle.isa.specs.Code.{TellsAll};
 ghost use Rattle.bus.specs.State.{cpu};
-ghost use Rattle.cpu.specs.Step.{executed, stepOf, quietly, toldOf, toldAs};
+ghost use Rattle.cpu.specs.Step.{executed, stepOf};
+ghost use Rattle.cpu.specs.Code.{doneQuiet, toldOf, toldAs};
 
-// What a step leaves, beside the lent registers, CSRs and bytes: the device registers, the halted mark, how many bytes it wrote through memory,
-// their first address, what they wrote over, how many bus bytes.
+// What a step leaves, beside the lent registers, CSRs and bytes: the rest of the state, how many bytes it wrote through memory, their first address,
+// what they wrote over, how many bus bytes.
 pub struct Done {
-    pub devices: Devices,
-    pub halted: bool,
+    pub board: Board,
     pub count: u8,
     pub first: u16,
     pub old: u16,
@@ -28,12 +29,11 @@ pub struct Done {
 }
 
 // Nothing was written through memory.
-fn quiet(devices: Devices, halted: bool, bus: u8) -> Done
-    ensures { λ q. ⌜ q ≡ quietly devices halted bus ⌝ }
+fn quiet(board: Board, bus: u8) -> Done
+    ensures { λ q. ⌜ q ≡ doneQuiet board bus ⌝ }
 {
     Done {
-        devices,
-        halted,
+        board,
         count: 0,
         first: 0,
         old: 0,
@@ -45,45 +45,44 @@ fn execute(
     regs: &mut [u16; 16],
     csrs: &mut [u16; 6],
     ram: &mut [u8],
-    v: Devices,
-    halted: bool,
+    b: Board,
     op: Op,
     opcode: u8,
     operands: u8,
 ) -> Done
-    ensures { λ q. ⌜ toldAs (now (regs .exit)) (now (csrs .exit)) q (now (ram .exit)) ≡ toldOf (now (ram .entry)) (executed op (cpu (now (regs .entry)) (now (csrs .entry)) v halted) (now (ram .entry)) opcode (highAt 4 operands) (lowAt 4 operands)) ⌝ }
+    ensures { λ q. ⌜ toldAs (now (regs .exit)) (now (csrs .exit)) q (now (ram .exit)) ≡ toldOf (now (ram .entry)) (executed op (cpu (now (regs .entry)) (now (csrs .entry)) b) (now (ram .entry)) opcode (highAt 4 operands) (lowAt 4 operands)) ⌝ }
 {
     let before = regs[F];
     match op {
-        Op::Illegal(reason) => quiet(v, exceptions::raise(regs, csrs, reason, halted), 2),
+        Op::Illegal(reason) => quiet(exceptions::raise(regs, csrs, reason, b), 2),
         Op::Alu(x) => {
             computing::compute(regs, x, operands);
             let f = regs[F];
-            quiet(v, exceptions::settle(csrs, before, f, halted), 2)
+            quiet(exceptions::settle(csrs, before, f, b), 2)
         }
         Op::Compare(x) => {
             computing::compare(regs, x, operands);
             let f = regs[F];
-            quiet(v, exceptions::settle(csrs, before, f, halted), 2)
+            quiet(exceptions::settle(csrs, before, f, b), 2)
         }
         Op::Move(x) => {
             moving::transfer(regs, csrs, x, opcode, operands);
             let f = regs[F];
-            quiet(v, exceptions::settle(csrs, before, f, halted), 2)
+            quiet(exceptions::settle(csrs, before, f, b), 2)
         }
         Op::Load(x) => {
+            let v = b.devices;
             let n = loading::load(regs, v, ram, x, opcode, operands);
             let f = regs[F];
-            quiet(v, exceptions::settle(csrs, before, f, halted), 2 + n)
+            quiet(exceptions::settle(csrs, before, f, b), 2 + n)
         }
         Op::Store(x) => {
-            let w = storing::store(regs, v, ram, x, operands);
+            let w = storing::store(regs, b, ram, x, operands);
             let f = regs[F];
-            let h = exceptions::settle(csrs, before, f, halted);
-            let u = w.devices;
+            let u = w.board;
+            let board = exceptions::settle(csrs, before, f, u);
             Done {
-                devices: u,
-                halted: h,
+                board,
                 count: w.count,
                 first: w.first,
                 old: w.old,
@@ -93,22 +92,24 @@ fn execute(
     }
 }
 
-// The interrupt or the instruction that is due.
+// The interrupt or the instruction that is due. The table is lent, since making it costs more than a step; what the step does by another table than
+// the one that tells the rules is not said.
 pub fn step(
+    table: &[u8],
     regs: &mut [u16; 16],
     csrs: &mut [u16; 6],
     ram: &mut [u8],
-    v: Devices,
-    halted: bool,
+    b: Board,
 ) -> Done
-    ensures { λ q. ⌜ toldAs (now (regs .exit)) (now (csrs .exit)) q (now (ram .exit)) ≡ toldOf (now (ram .entry)) (stepOf (cpu (now (regs .entry)) (now (csrs .entry)) v halted) (now (ram .entry))) ⌝ }
+    ensures { λ q. ⌜ (TellsAll (now (table .entry)) → toldAs (now (regs .exit)) (now (csrs .exit)) q (now (ram .exit)) ≡ toldOf (now (ram .entry)) (stepOf (cpu (now (regs .entry)) (now (csrs .entry)) b) (now (ram .entry)))) ⌝ }
 {
     let f = regs[F];
     if exceptions::due(f) {
         exceptions::enter(regs);
-        return quiet(v, halted, 0);
+        return quiet(b, 0);
     }
     let pc = regs[PC];
+    let v = b.devices;
     let first = address::read_byte(v, ram, pc);
     let second = address::read_byte(v, ram, sums::plus(pc, 1));
     regs[PC] = sums::plus(pc, 2);
@@ -116,9 +117,8 @@ pub fn step(
         regs,
         csrs,
         ram,
-        v,
-        halted,
-        opcode::decode(first),
+        b,
+        opcode::decode(table, first),
         first,
         second,
     )

@@ -1,12 +1,10 @@
 // What a command changed: registers, status registers, devices, bytes of memory.
 use crate::rows;
 use crate::status;
+use bus::state::Board;
 use bus::state::Cpu;
-use bus::state::Devices;
+use calls::state::Machine;
 use commands::words;
-use machine::state::Machine;
-ghost use mathlib.Core.Path.{_≡_};
-ghost use lib.ListN.{length};
 
 // The registers with a fixed name by it.
 pub fn register_name(n: usize) {
@@ -86,13 +84,16 @@ pub fn mark(b: bool) -> u16 {
     if b { 1 } else { 0 }
 }
 
-fn devices(old: Devices, new: Devices) -> bool {
+fn board(a: Board, b: Board) -> bool {
+    let old = a.devices;
+    let new = b.devices;
     let c = named(b"clock", old.clock, new.clock, 4);
     let x = named(b"RXD", old.rxd as u16, new.rxd as u16, 2);
     let y = named(b"TXD", old.txd as u16, new.txd as u16, 2);
     let r = named(b"R", mark(old.r), mark(new.r), 1);
     let t = named(b"T", mark(old.t), mark(new.t), 1);
-    c | (x | (y | (r | t)))
+    let h = named(b"halted", mark(a.halted), mark(b.halted), 1);
+    c | (x | (y | (r | (t | h))))
 }
 
 fn one_byte(at: usize, old: u8, new: u8) {
@@ -136,11 +137,10 @@ fn processor(a: Cpu, b: Cpu) -> bool {
     let j = a.csrs;
     let k = b.csrs;
     let of_csrs = status_registers(&j, &k);
-    let v = a.devices;
-    let w = b.devices;
-    let of_devices = devices(v, w);
-    let of_mark = named(b"halted", mark(a.halted), mark(b.halted), 1);
-    of_registers | (of_csrs | (of_devices | of_mark))
+    let v = a.board;
+    let w = b.board;
+    let of_board = board(v, w);
+    of_registers | (of_csrs | of_board)
 }
 
 // What differs between the machine before and after, and between the copy and the memory.

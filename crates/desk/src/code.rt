@@ -49,7 +49,8 @@ pub fn list(d: Desk, line: &[u8], at: usize, ram: &[u8]) {
     if n.is_bad {
         return;
     }
-    let v = c.devices;
+    let b = c.board;
+    let v = b.devices;
     lines(v, ram, a.value, n.value);
 }
 
@@ -68,7 +69,8 @@ fn poked(
     let e = stores::stored(d, at, two, ram, old, journal);
     let m = e.machine;
     let c = m.cpu;
-    let v = c.devices;
+    let b = c.board;
+    let v = b.devices;
     one_line(v, ram, at);
     e
 }

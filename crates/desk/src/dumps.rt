@@ -125,7 +125,8 @@ pub fn dump(d: Desk, line: &[u8], at: usize, ram: &[u8], f: Form) -> Desk {
     let size = size_asked(d, a, n);
     let m = d.machine;
     let c = m.cpu;
-    let v = c.devices;
+    let b = c.board;
+    let v = b.devices;
     let rows = size / 16;
     let mut whole = rows;
     if size % 16 != 0 {

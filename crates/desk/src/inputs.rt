@@ -1,69 +1,33 @@
 // tick, key, sent, reset: the inputs that come from outside the program.
 use crate::changes;
+use crate::outcomes;
+use crate::outcomes::Outcome;
 use crate::refusals;
 use crate::state;
 use crate::state::Desk;
 use crate::stores;
 use crate::stores::Bytes;
 use crate::values;
-use machine::inputs;
-use machine::state::Answer;
-use machine::state::Machine;
-use machine::state::Reply;
+use calls::state::Machine;
+use machine::Call;
 
-// The machine after an input, and whether it was refused.
-pub struct Outcome {
-    pub machine: Machine,
-    pub is_refused: bool,
-}
-
-pub fn given(m: Machine, r: Reply) -> Outcome {
-    let answer = r.answer;
-    let after = r.machine;
-    match answer {
-        Answer::Refused(why) => {
-            refusals::refused(why);
-            Outcome {
-                machine: m,
-                is_refused: true,
-            }
-        }
-        Answer::Accepted | Answer::Stepped(_) | Answer::Ran(_) => Outcome {
-            machine: after,
-            is_refused: false,
-        },
+// What calls changed.
+pub fn shown(d: Desk, o: Outcome, ram: &[u8], old: &mut [u8]) -> Desk {
+    if outcomes::is_refused(o) {
+        return d;
     }
-}
-
-// What inputs changed.
-pub fn shown(d: Desk, after: Machine, ram: &[u8], old: &mut [u8]) -> Desk {
     let before = d.machine;
+    let after = o.machine;
     changes::show(before, after, ram, old);
     state::with_machine(d, after)
 }
 
-// One input: what it changed, unless it was refused.
-pub fn finished(d: Desk, g: Outcome, ram: &[u8], old: &mut [u8]) -> Desk {
-    if g.is_refused {
-        return d;
-    }
-    let after = g.machine;
-    shown(d, after, ram, old)
-}
-
-fn ticks(m: Machine, n: u16, ram: &mut [u8], journal: &mut [u16]) -> Machine {
-    let mut g = m;
-    let mut i: u16 = 0;
-    while i < n {
-        let r = inputs::tick(g, ram, journal);
-        let after = given(g, r);
-        g = after.machine;
-        if after.is_refused {
-            return g;
-        }
-        i += 1;
-    }
-    g
+// One input.
+pub fn given(d: Desk, call: Call, ram: &mut [u8], old: &mut [u8], journal: &mut [u16]) -> Desk {
+    let m = d.machine;
+    let o = outcomes::made(outcomes::from(m), call, ram, journal);
+    refusals::say(o.refusal);
+    shown(d, o, ram, old)
 }
 
 // tick [N]
@@ -84,46 +48,34 @@ pub fn tick(
         return d;
     }
     let m = d.machine;
-    let after = ticks(m, n.value, ram, journal);
-    shown(d, after, ram, old)
-}
-
-fn one_key(m: Machine, b: u8, ram: &mut [u8], journal: &mut [u16]) -> Outcome {
-    let r = inputs::receive(m, ram, journal, b);
-    given(m, r)
+    let o = outcomes::repeated(m, Call::Tick, n.value, ram, journal);
+    refusals::say(o.refusal);
+    shown(d, o, ram, old)
 }
 
 // Of several bytes, how many went in before the one that was refused.
-fn received(n: usize, of: usize) {
-    if of < 2 {
+fn received(o: Outcome, of: usize) {
+    if (o.refusal == 0) | (of < 2) {
         return;
     }
-    report::decimal(n as u64);
+    report::decimal(o.calls);
     report::text(b" of ");
     report::decimal(of as u64);
     report::text(b" bytes were received\n");
 }
 
-// Refused is what was refused at its first byte.
 fn keys(m: Machine, bytes: &[u8], ram: &mut [u8], journal: &mut [u16]) -> Outcome {
-    let mut g = m;
+    let mut o = outcomes::from(m);
     let mut i: usize = 0;
     while i < bytes.len() {
-        let after = one_key(g, bytes[i], ram, journal);
-        g = after.machine;
-        if after.is_refused {
-            received(i, bytes.len());
-            return Outcome {
-                machine: g,
-                is_refused: i == 0,
-            };
-        }
+        let call = Call::Receive(bytes[i]);
         i += 1;
+        o = outcomes::made(o, call, ram, journal);
+        if o.refusal != 0 {
+            return o;
+        }
     }
-    Outcome {
-        machine: g,
-        is_refused: false,
-    }
+    o
 }
 
 // key BYTE..
@@ -144,13 +96,16 @@ pub fn key(
         return d;
     }
     let m = d.machine;
-    let after = keys(m, &room[0..n], ram, journal);
-    finished(d, after, ram, old)
+    let o = keys(m, &room[0..n], ram, journal);
+    refusals::say(o.refusal);
+    received(o, n);
+    shown(d, o, ram, old)
 }
 
-// sent
-pub fn sent(
+// sent, reset: a command that is one word.
+pub fn lone(
     d: Desk,
+    call: Call,
     line: &[u8],
     at: usize,
     ram: &mut [u8],
@@ -160,24 +115,5 @@ pub fn sent(
     if !values::is_end(line, at) {
         return d;
     }
-    let m = d.machine;
-    let r = inputs::sent(m, ram, journal);
-    finished(d, given(m, r), ram, old)
-}
-
-// reset
-pub fn reset(
-    d: Desk,
-    line: &[u8],
-    at: usize,
-    ram: &mut [u8],
-    old: &mut [u8],
-    journal: &mut [u16],
-) -> Desk {
-    if !values::is_end(line, at) {
-        return d;
-    }
-    let m = d.machine;
-    let r = inputs::reset(m, ram, journal);
-    finished(d, given(m, r), ram, old)
+    given(d, call, ram, old, journal)
 }

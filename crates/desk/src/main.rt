@@ -7,6 +7,7 @@ mod help;
 mod images;
 mod inputs;
 mod lines;
+mod outcomes;
 mod paths;
 mod perform;
 mod refusals;
@@ -25,7 +26,6 @@ use libc::STDERR_FILENO;
 use lines::Line;
 use state::Desk;
 ghost use mathlib.Core.Path.{_≡_};
-ghost use Prim.Native.Nat.{_≤_};
 ghost use lib.ListN.{length};
 
 // Of each room the `ensures` gives only the length, so that no proof writes the zeros out.

@@ -7,7 +7,6 @@ use crate::images;
 use crate::inputs;
 use crate::registers;
 use crate::scripts;
-use crate::state;
 use crate::state::Desk;
 use crate::steps;
 use crate::stores;
@@ -16,6 +15,7 @@ use commands::names;
 use commands::names::Command;
 use commands::names::Found;
 use commands::words;
+use machine::Call;
 
 fn form(is_words: bool, is_decimal: bool) -> Form {
     Form {
@@ -64,8 +64,8 @@ fn signal(
 ) -> Desk {
     match c {
         Command::Key => inputs::key(d, line, at, ram, old, journal),
-        Command::Reset => inputs::reset(d, line, at, ram, old, journal),
-        Command::Sent => inputs::sent(d, line, at, ram, old, journal),
+        Command::Reset => inputs::lone(d, Call::Reset, line, at, ram, old, journal),
+        Command::Sent => inputs::lone(d, Call::Sent, line, at, ram, old, journal),
         _ => inputs::tick(d, line, at, ram, old, journal),
     }
 }

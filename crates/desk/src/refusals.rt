@@ -1,6 +1,5 @@
 // What the numbered refusals mean, in words.
 use crate::texts;
-use machine::state::Refusal;
 
 // The lines stand for the numbers from 0 on.
 fn meaning(n: u8) {
@@ -15,7 +14,7 @@ there is no such register
 not all of it is in RAM; nothing was stored
 no record is held to step back to
 the newest record is damaged
-the opcode is none
+the processor has no such opcode
 there is no room for the text
 the line is not: word, blanks, word, comma, word
 unknown or unimplemented mnemonic
@@ -34,8 +33,4 @@ pub fn say(n: u8) {
     report::decimal(n as u64);
     report::text(b": ");
     meaning(n);
-}
-
-pub fn refused(why: Refusal) {
-    say(machine::state::number(why));
 }

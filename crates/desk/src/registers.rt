@@ -4,7 +4,7 @@ use crate::inputs;
 use crate::state::Desk;
 use crate::status;
 use crate::values;
-use bus::state::Devices;
+use bus::state::Board;
 use commands::numbers;
 use commands::numbers::Read;
 use commands::words;
@@ -13,6 +13,7 @@ use isa::register::Csr;
 use isa::register::FoundCsr;
 use isa::register::FoundReg;
 use isa::register::Reg;
+use machine::Call;
 
 // A number below 16, or 16 where the word is no such number.
 fn index(word: &[u8]) -> u8 {
@@ -86,7 +87,8 @@ fn show_register(d: Desk, n: u8) {
 }
 
 // What the debugger shows beside the registers: the flags, the devices, the halted mark.
-fn show_devices(v: Devices, f: u16, halted: bool) {
+fn show_board(b: Board, f: u16) {
+    let v = b.devices;
     report::text(b"flags ");
     status::flags(f);
     one_device(b"  clock ", v.clock, 4);
@@ -94,7 +96,7 @@ fn show_devices(v: Devices, f: u16, halted: bool) {
     one_device(b"  TXD ", v.txd as u16, 2);
     one_device(b"  R ", changes::mark(v.r), 1);
     one_device(b"  T ", changes::mark(v.t), 1);
-    one_device(b"  halted ", changes::mark(halted), 1);
+    one_device(b"  halted ", changes::mark(b.halted), 1);
     report::end();
 }
 
@@ -108,8 +110,8 @@ fn show_registers(d: Desk) {
     let c = m.cpu;
     let regs = c.regs;
     all_registers(&regs);
-    let v = c.devices;
-    show_devices(v, regs[register::F], c.halted);
+    let b = c.board;
+    show_board(b, regs[register::F]);
 }
 
 // register [NAME [VALUE]]
@@ -141,9 +143,7 @@ pub fn register(
         show_register(d, n);
         return d;
     }
-    let m = d.machine;
-    let r = machine::inputs::set_register(m, ram, journal, n, v.value);
-    inputs::finished(d, inputs::given(m, r), ram, old)
+    inputs::given(d, Call::SetRegister(n, v.value), ram, old, journal)
 }
 
 // csr6 to csr15 read 0.

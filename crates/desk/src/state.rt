@@ -1,6 +1,6 @@
 // What stays from command to command, beside the memory and the journal.
+use calls::state::Machine;
 use libc::STDIN_FILENO;
-use machine::state::Machine;
 
 pub struct Desk {
     pub machine: Machine,
@@ -17,7 +17,7 @@ pub struct Desk {
 }
 
 pub fn opened() -> Desk {
-    let machine = machine::state::start();
+    let machine = calls::state::start();
     Desk {
         machine,
         dump_at: 0,

@@ -1,8 +1,8 @@
 // The line after step, back and execute: where the machine stands.
 use bus::address;
 use bus::state::Cpu;
+use calls::state::Machine;
 use isa::register;
-use machine::state::Machine;
 use text::list;
 use text::list::Listed;
 
@@ -46,7 +46,8 @@ pub fn instruction(w: u16) {
 // The address, the instruction there, and the flags.
 pub fn place(c: Cpu, ram: &[u8]) {
     let regs = c.regs;
-    let v = c.devices;
+    let b = c.board;
+    let v = b.devices;
     let pc = regs[register::PC];
     report::text(b"pc ");
     report::hex(pc as u64, 4);

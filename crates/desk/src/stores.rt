@@ -1,16 +1,17 @@
 // memset, and bytes poked one after the other.
-use crate::inputs;
-use crate::inputs::Outcome;
+use crate::outcomes;
+use crate::outcomes::Outcome;
 use crate::refusals;
 use crate::rows;
 use crate::state;
 use crate::state::Desk;
 use crate::values;
+use calls::state::Machine;
 use commands::constants;
 use commands::numbers;
 use commands::numbers::Read;
 use commands::words;
-use machine::state::Machine;
+use machine::Call;
 use word::sums;
 
 // How many bytes the values are; or one of them is bad, which was said.
@@ -118,26 +119,21 @@ pub fn fits(at: u16, n: usize, ram: usize) -> bool {
     false
 }
 
-fn one_poke(m: Machine, at: u16, b: u8, ram: &mut [u8], journal: &mut [u16]) -> Outcome {
-    let r = machine::inputs::poke(m, ram, journal, at, b);
-    inputs::given(m, r)
-}
-
 // Each byte is a poke, so each can be stepped back.
-pub fn poke_all(m: Machine, at: u16, bytes: &[u8], ram: &mut [u8], journal: &mut [u16]) -> Machine {
-    let mut g = m;
+fn pokes(m: Machine, at: u16, bytes: &[u8], ram: &mut [u8], journal: &mut [u16]) -> Outcome {
+    let mut o = outcomes::from(m);
     let mut a = at;
     let mut i: usize = 0;
     while i < bytes.len() {
-        let after = one_poke(g, a, bytes[i], ram, journal);
-        g = after.machine;
-        if after.is_refused {
-            return g;
-        }
+        let call = Call::Poke(a, bytes[i]);
         a = sums::plus(a, 1);
         i += 1;
+        o = outcomes::made(o, call, ram, journal);
+        if o.refusal != 0 {
+            return o;
+        }
     }
-    g
+    o
 }
 
 // The bytes poked from an address on; the caller sees that they are in RAM.
@@ -150,8 +146,10 @@ pub fn stored(
     journal: &mut [u16],
 ) -> Desk {
     let m = d.machine;
-    let after = poke_all(m, at, bytes, ram, journal);
+    let o = pokes(m, at, bytes, ram, journal);
+    refusals::say(o.refusal);
     rows::put_all(old, 0, ram);
+    let after = o.machine;
     state::with_machine(d, after)
 }
 

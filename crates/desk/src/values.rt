@@ -2,8 +2,6 @@
 use commands::numbers;
 use commands::numbers::Read;
 use commands::words;
-ghost use Prim.Native.Nat.{_≤_};
-ghost use lib.ListN.{length};
 
 // A number that may be missing, and where the line goes on.
 pub struct Taken {

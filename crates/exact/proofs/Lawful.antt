@@ -10,7 +10,8 @@ use lib.ListN.{length, length-set, take, length-take}
 use Rattle.word.specs.Word.{joinAt, lowAt}
 use Rattle.word.proofs.Width.{low-below, plus-below}
 use Rattle.word.proofs.Digits.{below}
-use Rattle.bus.specs.State.{F, word, devices}
+use Rattle.isa.specs.Names.{F}
+use Rattle.bus.specs.State.{word, devices}
 use Rattle.bus.specs.Good.{Within, GoodDevices, Good, Changed, none, one, two}
 use Rattle.bus.specs.declared.state.Cpu.{Cpu}
 use Rattle.bus.specs.declared.state.Devices.{Devices}
@@ -24,12 +25,11 @@ use Rattle.history.specs.Ring.{ring}
 use Rattle.history.proofs.PutBack.{touched-none, touched-one, touched-two}
 use Rattle.history.proofs.Exact.{Lawful, Ruly, Keeping}
 use Rattle.history.proofs.RingLaws.{keeping}
-use Rattle.input.specs.Record.{recordOf, decoded}
-use Rattle.input.specs.Inputs.{Input, step, tick, receive, sent, setRegister, poke, resets, signalled, registerSet, nextOf, machine}
-use Rattle.advance.specs.Standing.{W}
-use Rattle.machine.specs.Calls.{checked, checkOf}
+use Rattle.records.specs.Record.{recordOf, decoded}
+use Rattle.calls.specs.Inputs.{Input, step, tick, receive, sent, setRegister, poke, resets, signalled, registerSet, nextOf, machine}
+use Rattle.calls.specs.Calls.{W, checkOf}
 use Rattle.exact.specs.Demand3.{Fits}
-use Rattle.exact.proofs.Records.{FineUndo, wide, reads}
+use Rattle.exact.proofs.Records.{Roomy, FineUndo, wide, reads}
 
 pub record GoodBox (b : Box Cpu) : Type 0 where
   pub cpu : Good (b .cpu)
@@ -45,17 +45,17 @@ signalled-good : (bits : ℕ) {v : Devices} {c : Cpu} → GoodDevices v → Good
 unfolding signalled
 signalled-good bits {v} {c} g r =
     let l : joinAt 8 (lowAt 8 (word (c .csrs) 0)) 1 ≤ 511 = omega (arith, low-below 8 (word (c .csrs) 0)) in
-    record { regs = reg-set F (r .regs) (below 16 _); csrs = csr0-set (r .csrs) l; devices = g }
+    record { regs = reg-set F (r .regs) (below 16 _); csrs = csr0-set (r .csrs) l; board = record { devices = g } }
 
 set-good : (i x : ℕ) {c : Cpu} → x < 2 ^ 16 → Good c → Good (registerSet i x c)
 unfolding registerSet
-set-good i x h r = record { regs = reg-set i (r .regs) h; csrs = r .csrs; devices = r .devices }
+set-good i x h r = record { regs = reg-set i (r .regs) h; csrs = r .csrs; board = record { devices = r .board .devices } }
 
 module _ (b : Box Cpu) (g : GoodBox b) where
   L : Next Cpu → Type 0
   L = Lawful GoodBox b
 
-  quiet : {c : Cpu} → Good c → Lawful GoodBox b (gives (record { box = record { cpu = c; ram = b .ram }; count = 0; at = 0; bus = 0 }))
+  quiet : {c : Cpu} → Good c → Lawful GoodBox b (gives (record { box = record { cpu = c; ram = b .ram }; count = 0; first = 0; bus = 0 }))
   quiet r = (record { cpu = r; bytes = g .bytes; size = g .size }, touched-none 0 (b .ram))
 
   steps : Lawful GoodBox b (nextOf step b)
@@ -63,26 +63,26 @@ module _ (b : Box Cpu) (g : GoodBox b) where
   steps =
       let s = step-good (g .cpu) (g .bytes) in
       let t = step-changes (b .cpu) (b .ram) in
-      picked (Lawful GoodBox b) (b .cpu .halted) (omega arith)
+      picked (Lawful GoodBox b) (b .cpu .board .halted) (omega arith)
       (record { cpu = s .cpu; bytes = s .ram; size = omega (arith, kept-length t, g .size) }, touches t)
 
   ticks : Lawful GoodBox b (nextOf tick b)
   unfolding nextOf
   ticks =
-      let d = g .cpu .devices in
-      quiet (signalled-good 0x0400 (record { clock = plus-below 16 (b .cpu .devices .clock) 1; rxd = d .rxd; txd = d .txd }) (g .cpu))
+      let d = g .cpu .board .devices in
+      quiet (signalled-good 0x0400 (record { clock = plus-below 16 (b .cpu .board .devices .clock) 1; rxd = d .rxd; txd = d .txd }) (g .cpu))
 
   receives : (x : ℕ) → x < 2 ^ 8 → Lawful GoodBox b (nextOf (receive x) b)
   unfolding nextOf
   receives x h =
-      let d = g .cpu .devices in
-      picked (Lawful GoodBox b) (b .cpu .devices .r) (omega arith) (quiet (signalled-good 0x0800 (record { clock = d .clock; rxd = h; txd = d .txd }) (g .cpu)))
+      let d = g .cpu .board .devices in
+      picked (Lawful GoodBox b) (b .cpu .board .devices .r) (omega arith) (quiet (signalled-good 0x0800 (record { clock = d .clock; rxd = h; txd = d .txd }) (g .cpu)))
 
   sends : Lawful GoodBox b (nextOf sent b)
   unfolding nextOf
   sends =
-      let d = g .cpu .devices in
-      picked (Lawful GoodBox b) (b .cpu .devices .t) (omega arith)
+      let d = g .cpu .board .devices in
+      picked (Lawful GoodBox b) (b .cpu .board .devices .t) (omega arith)
       (quiet (signalled-good 0x0800 (record { clock = d .clock; rxd = d .rxd; txd = d .txd }) (g .cpu)))
 
   sets : (i x : ℕ) → x < 2 ^ 16 → Lawful GoodBox b (nextOf (setRegister i x) b)
@@ -109,16 +109,13 @@ lawful (setRegister i x) b f g = sets b g i x f
 lawful (poke a x) b f g = pokes b g a x f
 lawful resets b f g = starts b g
 
+pub roomy : {c : Cpu} → Good c → Roomy c
+roomy r = record { regs16 = r .regs .long; csrs6 = r .csrs .long; rxd = r .board .devices .rxd }
+
 pub fines : (b : Box Cpu) (n a : ℕ) → GoodBox b → FineUndo (undoOf b n a)
-fines b zero a g =
-    let c = g .cpu in
-    record { regs16 = c .regs .long; csrs6 = c .csrs .long; csr0 = c .csrs .csr0; rxd = c .devices .rxd; count = omega arith; low = omega arith }
-fines b (suc zero) a g =
-    let c = g .cpu in
-    record { regs16 = c .regs .long; csrs6 = c .csrs .long; csr0 = c .csrs .csr0; rxd = c .devices .rxd; count = omega arith; low = g .bytes .at a }
-fines b (suc (suc n)) a g =
-    let c = g .cpu in
-    record { regs16 = c .regs .long; csrs6 = c .csrs .long; csr0 = c .csrs .csr0; rxd = c .devices .rxd; count = omega arith; low = g .bytes .at a }
+fines b zero a g = record { cpu = roomy (g .cpu); csr0 = g .cpu .csrs .csr0; count = omega arith; low = omega arith }
+fines b (suc zero) a g = record { cpu = roomy (g .cpu); csr0 = g .cpu .csrs .csr0; count = omega arith; low = g .bytes .at a }
+fines b (suc (suc n)) a g = record { cpu = roomy (g .cpu); csr0 = g .cpu .csrs .csr0; count = omega arith; low = g .bytes .at a }
 
 abbrev pub ruly : Ruly machine FineUndo
 ruly = record { Good = GoodBox; Fits = Fits; stepping = tt; lawful = lawful; fines = fines }
@@ -137,7 +134,7 @@ next-fits (suc n) next h = rw (lt-ltb next (suc n) (omega arith))
 
 -- where the state is good and the journal holds records, the first checks pass
 pub passes : (n : ℕ) → n ≤ 1024 → (w : W) (us : List (Undo Cpu)) → GoodBox (w .box) → Slots n .Holds (w .journal) us → checkOf w ≡ 0
-unfolding checked
+unfolding checkOf
 passes n top w us g h =
     let j = w .journal in
     let e : length (j .words) / 32 ≡ n = omega (arith, h .sized) in

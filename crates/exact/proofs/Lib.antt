@@ -1,6 +1,8 @@
 pub mod Records
 pub mod Lawful
 pub mod Single
-pub mod Seen
 pub mod Counts
 pub mod Places
+pub mod Played
+pub mod Seen
+pub mod Across

@@ -10,23 +10,22 @@ use lib.Dec.{T, leb, ltb, eqb, ltb→lt, leb→le, eqb→eq}
 use lib.ListN.{length}
 use Rattle.bus.specs.State.{word}
 use Rattle.bus.specs.declared.state.Cpu.{Cpu}
-use Rattle.history.specs.Trace.{Next, refuses, gives, Popped, denies, hands, Undo, Answer as AnswerOf, Call, give, run, back, undoOf, guarded, gave, backed, after, stepped, ran, plain}
+use Rattle.history.specs.Trace.{Next, refuses, gives, Popped, denies, hands, Undo, Answer, Call, give, run, back, undoOf, guarded, gave, backed, after, stepped, ran, plain}
 use Rattle.history.specs.Ring.{Ring, slots, slotBefore, slotWords, pushed, popped, poppedAt}
 use Rattle.history.proofs.Pushing.{push-in, push-out}
 use Rattle.history.proofs.RingLaws.{length-here, after-in}
 use Rattle.history.proofs.Runs.{number-ran}
-use Rattle.input.specs.Record.{recordWith, recordOf, decoded}
-use Rattle.input.specs.Inputs.{Input, step, nextOf, stepsOf, machine}
-use Rattle.advance.specs.Standing.{W}
-use Rattle.machine.specs.Calls.{ramFits, firstOf, checked, checkOf, answerOf}
+use Rattle.records.specs.Record.{recordWith, recordOf, decoded}
+use Rattle.calls.specs.Inputs.{Input, step, nextOf, stepsOf, machine}
+use Rattle.calls.specs.Calls.{W, ramFits, firstOf, checkOf, answerOf}
 use Rattle.exact.specs.Fields.{Placed, PlacesWhole}
 use Rattle.exact.proofs.Counts.{journal}
 
 -- what the calls keep of a journal
-record Sits (j : Ring) : Type 0 where
-  size : length (j .words) ≤ 32768
-  next : j .next ≤ 1024
-  held : j .held ≤ 1024
+pub record Sits (j : Ring) : Type 0 where
+  pub size : length (j .words) ≤ 32768
+  pub next : j .next ≤ 1024
+  pub held : j .held ≤ 1024
 
 -- ---- the checks
 passed : (a b l c h n : Bool) → firstOf a (b && l) (c && (h && n)) ≡ 0 → T l × T h × T n
@@ -47,7 +46,7 @@ next-small n next h t = go (ltb next n) (eqb n 0) (eqb next 0) (ltb→lt next n)
     go false false c l z t = absurd t
 
 checks-sit : (w : W) → checkOf w ≡ 0 → Sits (w .journal)
-unfolding checked
+unfolding checkOf
 checks-sit w e =
     let j = w .journal in
     let k = length (j .words) in
@@ -98,14 +97,14 @@ pop-sits k (suc n) j l s = go (decoded (slotWords (j .words) k))
     go (some u) = record { size = s .size; next = l; held = omega (arith, s .held) }
 
 -- ---- one call
-abbrev SitsIn : AnswerOf Cpu Ring → Type 0
+abbrev SitsIn : Answer Cpu Ring → Type 0
 SitsIn a = Sits (a .world .journal)
 
 gave-sits : (w : W) (s : ℕ) (x : Next Cpu) → Sits (w .journal) → SitsIn (gave machine journal w s x)
 gave-sits w s (refuses n) h = h
-gave-sits w s (gives e) h = push-sits _ (w .journal) (long (undoOf (w .box) (e .count) (e .at))) h
+gave-sits w s (gives e) h = push-sits _ (w .journal) (long (undoOf (w .box) (e .count) (e .first))) h
 
-stepped-sits : (k : W → AnswerOf Cpu Ring) (w : W) (x : Next Cpu) → ((v : W) → Sits (v .journal) → SitsIn (k v)) → Sits (w .journal)
+stepped-sits : (k : W → Answer Cpu Ring) (w : W) (x : Next Cpu) → ((v : W) → Sits (v .journal) → SitsIn (k v)) → Sits (w .journal)
     → SitsIn (stepped machine journal k w x)
 stepped-sits k w (refuses n) f h = h
 stepped-sits k w (gives e) f h = f (after machine journal w e) (gave-sits w 0 (gives e) h)
@@ -126,19 +125,21 @@ plain-sits back w h =
     let j = w .journal in
     backed-sits w (journal .pop j) h (pop-sits _ (j .held) j (before-small (slots (j .words)) (j .next) (omega (arith, h .size)) (h .next)) h)
 
-guarded-sits : (n : ℕ) (w : W) (a : AnswerOf Cpu Ring) → Sits (w .journal) → SitsIn a → SitsIn (guarded n w a)
+guarded-sits : (n : ℕ) (w : W) (a : Answer Cpu Ring) → Sits (w .journal) → SitsIn a → SitsIn (guarded n w a)
 guarded-sits zero w a h l = l
 guarded-sits (suc n) w a h l = h
+
+pub call-sits : (c : Call Input) (w : W) → Sits (w .journal) → SitsIn (answerOf c w)
+call-sits c w h = guarded-sits (checkOf w) w (plain machine journal c w) h (plain-sits c w h)
 
 -- where checks 1 to 3 pass, next slot and records held are at most 1,024 after any call
 pub places : (c : Call Input) (w : W) → checkOf w ≡ 0 → Placed (answerOf c w .world .journal)
 places c w e =
-    let h = checks-sit w e in
-    let l = guarded-sits (checkOf w) w (plain machine journal c w) h (plain-sits c w h) in
+    let l = call-sits c w (checks-sit w e) in
     record { next = l .next; held = l .held }
 
 -- an accepted call passed the checks
-accepted : (n : ℕ) (w : W) (a : AnswerOf Cpu Ring) → guarded n w a .number ≡ 0 → n ≡ 0
+accepted : (n : ℕ) (w : W) (a : Answer Cpu Ring) → guarded n w a .number ≡ 0 → n ≡ 0
 accepted zero w a e = refl
 accepted (suc n) w a e = absurd (omega arith)
 
@@ -149,7 +150,7 @@ places-whole c w e =
     record { next = omega (arith, p .next); held = omega (arith, p .held) }
 
 -- ---- a refusal
-abbrev Stays : W → AnswerOf Cpu Ring → Type 0
+abbrev Stays : W → Answer Cpu Ring → Type 0
 Stays w a = (a .number ≡ 0 → ⊥) → a .world ≡ w
 
 gave-stays : (w : W) (s : ℕ) (x : Next Cpu) → Stays w (gave machine journal w s x)
@@ -165,7 +166,7 @@ plain-stays (give i) w h = gave-stays w (stepsOf i) (nextOf i (w .box)) h
 plain-stays (run n) w h = absurd (h (number-ran machine journal n w))
 plain-stays back w h = backed-stays w (journal .pop (w .journal)) h
 
-guarded-stays : (n : ℕ) (w : W) (a : AnswerOf Cpu Ring) → Stays w a → Stays w (guarded n w a)
+guarded-stays : (n : ℕ) (w : W) (a : Answer Cpu Ring) → Stays w a → Stays w (guarded n w a)
 guarded-stays zero w a l h = l h
 guarded-stays (suc n) w a l h = refl
 

@@ -14,13 +14,17 @@ use Rattle.word.proofs.Width.{low-join, high-join}
 use Rattle.bus.specs.State.{word}
 use Rattle.bus.specs.declared.state.Cpu.{Cpu}
 use Rattle.history.specs.Trace.{Undo}
-use Rattle.input.specs.Record.{part, marks, recordWith, recordOf, undoFrom, sound, decoded}
+use Rattle.records.specs.Record.{part, marks, recordWith, recordOf, undoFrom, sound, decoded}
+
+-- a state that the words have room for
+pub record Roomy (c : Cpu) : Type 0 where
+  pub regs16 : length (c .regs) ≡ 16
+  pub csrs6 : length (c .csrs) ≡ 6
+  pub rxd : c .board .devices .rxd < 2 ^ 8
 
 pub record FineUndo (u : Undo Cpu) : Type 0 where
-  pub regs16 : length (u .cpu .regs) ≡ 16
-  pub csrs6 : length (u .cpu .csrs) ≡ 6
+  pub cpu : Roomy (u .cpu)
   pub csr0 : word (u .cpu .csrs) 0 ≤ 511
-  pub rxd : u .cpu .devices .rxd < 2 ^ 8
   pub count : u .count ≤ 2
   pub low : u .low < 2 ^ 8
 
@@ -53,32 +57,33 @@ marked false true false = record { r-is = refl; t-is = refl; h-is = refl; small 
 marked false false true = record { r-is = refl; t-is = refl; h-is = refl; small = refl }
 marked false false false = record { r-is = refl; t-is = refl; h-is = refl; small = refl }
 
+-- what 32 words say, where they were written for it, also with numbers for which no record has room
+pub reads-undo : (u : Undo Cpu) → Roomy (u .cpu) → u .low < 2 ^ 8 → undoFrom (recordOf u) ≡ u
+unfolding recordWith undoFrom
+reads-undo u f low =
+    let c = u .cpu in
+    let k = marked (c .board .devices .r) (c .board .devices .t) (c .board .halted) in
+    rw (
+      part-all 16 (c .regs) (f .regs16),
+      part-all 6 (c .csrs) (f .csrs6),
+      low-join 8 (c .board .devices .txd) (f .rxd),
+      high-join 8 (c .board .devices .txd) (f .rxd),
+      low-join 8 (u .high) low,
+      high-join 8 (u .high) low,
+      k .r-is,
+      k .t-is,
+      k .h-is,
+    )
+
 module _ (u : Undo Cpu) (f : FineUndo u) where
   pub wide : length (recordOf u) ≡ 32
   unfolding recordWith
   wide = refl
 
-  reads-undo : undoFrom (recordOf u) ≡ u
-  unfolding recordWith undoFrom
-  reads-undo =
-      let c = u .cpu in
-      let k = marked (c .devices .r) (c .devices .t) (c .halted) in
-      rw (
-        part-all 16 (c .regs) (f .regs16),
-        part-all 6 (c .csrs) (f .csrs6),
-        low-join 8 (c .devices .txd) (f .rxd),
-        high-join 8 (c .devices .txd) (f .rxd),
-        low-join 8 (u .high) (f .low),
-        high-join 8 (u .high) (f .low),
-        k .r-is,
-        k .t-is,
-        k .h-is,
-      )
-
   is-sound : sound (recordOf u) ≡ true
   unfolding recordWith sound
-  is-sound = rw (le-leb _ _ (f .csr0), marked (u .cpu .devices .r) (u .cpu .devices .t) (u .cpu .halted) .small, le-leb _ _ (f .count))
+  is-sound = rw (le-leb _ _ (f .csr0), marked (u .cpu .board .devices .r) (u .cpu .board .devices .t) (u .cpu .board .halted) .small, le-leb _ _ (f .count))
 
   pub reads : decoded (recordOf u) ≡ some u
   unfolding decoded
-  reads = ap (λ (b : Bool). cond b (some (undoFrom (recordOf u))) none) is-sound ∙ ap some reads-undo
+  reads = ap (λ (b : Bool). cond b (some (undoFrom (recordOf u))) none) is-sound ∙ ap some (reads-undo u (f .cpu) (f .low))

@@ -1,4 +1,5 @@
--- No second result: a call's promise, and those of the run, the step, the instructions and the bus below it, leave one result, one memory and one journal.
+-- No second result: a call's promise, and those of its parts, the step, the instructions, the bus, the journal and the record below it, leave one result,
+-- one memory and one journal. A promise of the form `result ≡ definition` needs no word here.
 use Prim.Native.Nat.{ℕ, zero, suc}
 use mathlib.Core.Path.{_≡_, refl, _∙_, sym, ap}
 use mathlib.Core.Bool.{cond}
@@ -6,42 +7,46 @@ use mathlib.Core.List.{List}
 use lib.Dec.{eqb}
 use Rattle.bus.specs.Addresses.{Bus, bus}
 use Rattle.bus.specs.declared.state.Cpu.{Cpu}
-use Rattle.bus.specs.declared.state.Devices.{Devices}
-use Rattle.instructions.specs.Instructions.{Moved, both, Loaded, loads}
-use Rattle.instructions.specs.Over.{Over, overAs}
+use Rattle.bus.specs.declared.state.Board.{Board}
+use Rattle.instructions.specs.Instructions.{Moved, moves, Loaded, loads}
+use Rattle.instructions.specs.Code.{Over, overAs}
 use Rattle.instructions.specs.declared.storing.Written.{Written}
-use Rattle.cpu.specs.Step.{Told, toldAs}
+use Rattle.cpu.specs.Code.{Told, toldAs}
 use Rattle.cpu.specs.declared.step.Done.{Done}
-use Rattle.history.specs.Trace.{Answer as AnswerOf, Cause, no-run, budget, stopped, Call}
-use Rattle.history.specs.Ring.{Ring}
-use Rattle.input.specs.Inputs.{Input}
-use Rattle.advance.specs.Standing.{W, causeIs, ranAs}
-use Rattle.advance.specs.declared.Ended.{Ended}
-use Rattle.advance.specs.declared.Stop.{Stop}
-use Rattle.advance.specs.declared.Stop.the-variants.{Halted, Budget}
-use Rattle.machine.specs.Calls.{answerOf, worldOf, saidBy}
-use Rattle.machine.specs.declared.state.Machine.{Machine as MachineT}
-use Rattle.machine.specs.declared.state.Refusal.{Refusal}
-use Rattle.machine.specs.declared.state.Refusal.the-variants as Refusal
-use Rattle.machine.specs.declared.state.Answer.{Answer}
-use Rattle.machine.specs.declared.state.Answer.the-variants.{Accepted, Stepped, Ran, Refused}
-use Rattle.machine.specs.declared.state.Reply.{Reply}
-use Rattle.exact.specs.Demand3.{Made, answered}
+use Rattle.history.specs.Trace.{Undo, Answer, Cause, no-run, budget, stopped, Call}
+use Rattle.history.specs.Ring.{Ring, ringOf}
+use Rattle.history.specs.declared.Place.{Place}
+use Rattle.records.specs.Record.{undoFrom}
+use Rattle.records.specs.Code.{undoAs}
+use Rattle.records.specs.declared.Before.{Before}
+use Rattle.calls.specs.Inputs.{Input}
+use Rattle.calls.specs.Calls.{W, worldOf, saidBy, replied, Keeps}
+use Rattle.calls.specs.Code.{Acts}
+use Rattle.calls.specs.declared.state.Machine.{Machine as MachineT}
+use Rattle.calls.specs.declared.state.Refusal.{Refusal}
+use Rattle.calls.specs.declared.state.Refusal.the-variants as Refusal
+use Rattle.calls.specs.declared.state.Answer.{Answer as AnswerT}
+use Rattle.calls.specs.declared.state.Answer.the-variants.{Accepted, Stepped, Ran, Refused}
+use Rattle.calls.specs.declared.state.Stop.{Stop}
+use Rattle.calls.specs.declared.state.Stop.the-variants.{Halted, Budget}
+use Rattle.calls.specs.declared.state.Reply.{Reply}
+use Rattle.mb50.specs.Boundary.{Crossed, Crosses}
+use Rattle.running.specs.Code.{Turn, turnAs}
+use Rattle.running.specs.declared.recorded.Recorded.{Recorded}
 
 -- an answer, read back from the paper's number and values
 abbrev refusalFrom : ℕ → Refusal
-refusalFrom zero = Refusal.BadRecord
-refusalFrom (suc zero) = Refusal.RamTooLong
-refusalFrom (suc (suc zero)) = Refusal.BadJournal
-refusalFrom (suc (suc (suc zero))) = Refusal.BadState
-refusalFrom (suc (suc (suc (suc zero)))) = Refusal.Halted
-refusalFrom (suc (suc (suc (suc (suc zero))))) = Refusal.NotReady
-refusalFrom (suc (suc (suc (suc (suc (suc zero)))))) = Refusal.NoRegister
-refusalFrom (suc (suc (suc (suc (suc (suc (suc zero))))))) = Refusal.NotRam
-refusalFrom (suc (suc (suc (suc (suc (suc (suc (suc zero)))))))) = Refusal.NoRecord
-refusalFrom (suc (suc (suc (suc (suc (suc (suc (suc (suc n))))))))) = Refusal.BadRecord
+refusalFrom n =
+    cond (eqb n 1) Refusal.RamTooLong
+    (cond (eqb n 2) Refusal.BadJournal
+    (cond (eqb n 3) Refusal.BadState
+    (cond (eqb n 4) Refusal.Halted
+    (cond (eqb n 5) Refusal.NotReady
+    (cond (eqb n 6) Refusal.NoRegister
+    (cond (eqb n 7) Refusal.NotRam
+    (cond (eqb n 8) Refusal.NoRecord Refusal.BadRecord)))))))
 
-abbrev answerFrom : ℕ → ℕ → ℕ → Cause → Answer
+abbrev answerFrom : ℕ → ℕ → ℕ → Cause → AnswerT
 answerFrom (suc n) s b c = Refused (refusalFrom (suc n))
 answerFrom zero s b no-run = cond (eqb s 1) (Stepped b) Accepted
 answerFrom zero s b budget = Ran (record { steps = s; bus = b; stop = Budget })
@@ -63,101 +68,92 @@ run-back : (s b : ℕ) (t : Stop) (w : W) →
 run-back s b Halted w = refl
 run-back s b Budget w = refl
 
-answer-back : (a : Answer) (w : W) → answerFrom (saidBy a w .number) (saidBy a w .steps) (saidBy a w .bus) (saidBy a w .cause) ≡ a
+answer-back : (a : AnswerT) (w : W) → answerFrom (saidBy a w .number) (saidBy a w .steps) (saidBy a w .bus) (saidBy a w .cause) ≡ a
 answer-back Accepted w = refl
 answer-back (Stepped b) w = refl
 answer-back (Ran r) w = run-back (r .steps) (r .bus) (r .stop) w
 answer-back (Refused why) w = refusal-back why w
 
-pub world-back : (a : Answer) (w : W) → saidBy a w .world ≡ w
+pub world-back : (a : AnswerT) (w : W) → saidBy a w .world ≡ w
 world-back Accepted w = refl
 world-back (Stepped b) w = refl
 world-back (Ran r) w = refl
 world-back (Refused why) w = refl
 
-abbrev machineIn : W → MachineT
-machineIn w = record { cpu = w .box .cpu; next = w .journal .next; held = w .journal .held }
-
-abbrev replyFrom : AnswerOf Cpu Ring → Reply
-replyFrom a = record { answer = answerFrom (a .number) (a .steps) (a .bus) (a .cause); machine = machineIn (a .world) }
-
-abbrev reply : Answer → MachineT → Reply
+abbrev reply : AnswerT → MachineT → Reply
 reply a m = record { answer = a; machine = m }
 
-reply-back : (x : Made) → replyFrom (answered x) ≡ x .reply
-reply-back x =
-    ap (λ (a : Answer). reply a (machineIn (answered x .world))) (answer-back (x .reply .answer) (worldOf (x .reply .machine) (x .ram) (x .words)))
-    ∙ ap (λ (w : W). reply (x .reply .answer) (machineIn w)) (world-back (x .reply .answer) (worldOf (x .reply .machine) (x .ram) (x .words)))
+abbrev replyFrom : Answer Cpu Ring → W → Reply
+replyFrom a w = reply (answerFrom (a .number) (a .steps) (a .bus) (a .cause)) (record { cpu = w .box .cpu; next = w .journal .next; held = w .journal .held })
 
-ram-back : (x : Made) → answered x .world .box .ram ≡ x .ram
-ram-back x = ap (λ (w : W). w .box .ram) (world-back (x .reply .answer) (worldOf (x .reply .machine) (x .ram) (x .words)))
+module _ (r r′ : Reply) (ram ram′ ws ws′ : List ℕ) where
+  -- one reply, one memory, one journal
+  abbrev pub Alike : Type 0
+  Alike = (r ≡ r′) × (ram ≡ ram′) × (ws ≡ ws′)
 
-words-back : (x : Made) → answered x .world .journal .words ≡ x .words
-words-back x = ap (λ (w : W). w .journal .words) (world-back (x .reply .answer) (worldOf (x .reply .machine) (x .ram) (x .words)))
+  alike : replied r ram ws ≡ replied r′ ram′ ws′ → Alike
+  alike e =
+      let w = worldOf (r .machine) ram ws in
+      let w′ = worldOf (r′ .machine) ram′ ws′ in
+      let q : w ≡ w′ = sym (world-back (r .answer) w) ∙ ap (λ (a : Answer Cpu Ring). a .world) e ∙ world-back (r′ .answer) w′ in (
+        ap (λ (a : AnswerT). reply a (r .machine)) (sym (answer-back (r .answer) w))
+            ∙ ap (λ (a : Answer Cpu Ring). replyFrom a w) e
+            ∙ ap (replyFrom (replied r′ ram′ ws′)) q
+            ∙ ap (λ (a : AnswerT). reply a (r′ .machine)) (answer-back (r′ .answer) w′),
+        ap (λ (v : W). v .box .ram) q,
+        ap (λ (v : W). v .journal .words) q,
+      )
 
--- for all calls: two results that both keep the promise are the same, and so are memory and journal
-pub single : (c : Call Input) (w : W) (x y : Made) → answerOf c w ≡ answered x → answerOf c w ≡ answered y →
-    (x .reply ≡ y .reply) × (x .ram ≡ y .ram) × (x .words ≡ y .words)
-single c w x y p q =
-    let e : answered x ≡ answered y = sym p ∙ q in (
-      sym (reply-back x) ∙ ap replyFrom e ∙ reply-back y,
-      sym (ram-back x) ∙ ap (λ (a : AnswerOf Cpu Ring). a .world .box .ram) e ∙ ram-back y,
-      sym (words-back x) ∙ ap (λ (a : AnswerOf Cpu Ring). a .world .journal .words) e ∙ words-back y,
-    )
+  -- for all calls (`machine::answer`): two results that both keep the promise are the same, and so are memory and journal
+  pub single : (c : Call Input) (m : MachineT) (ram₀ ws₀ : List ℕ) → Keeps c m ram₀ ws₀ r ram ws → Keeps c m ram₀ ws₀ r′ ram′ ws′ → Alike
+  single c m ram₀ ws₀ p q = alike (sym p ∙ q)
 
--- what a run leaves, read back from what the rules answer
-abbrev stopFrom : Cause → Stop
-stopFrom no-run = Budget
-stopFrom budget = Budget
-stopFrom stopped = Halted
+  -- for their parts, once the checks are passed: every input, the run, the step back
+  pub single-part : (c : Call Input) (m : MachineT) (ram₀ ws₀ : List ℕ) → Acts c m ram₀ ws₀ r ram ws → Acts c m ram₀ ws₀ r′ ram′ ws′ → Alike
+  single-part c m ram₀ ws₀ p q = alike (sym p ∙ q)
 
-stop-back : (t : Stop) → stopFrom (causeIs t) ≡ t
-stop-back Halted = refl
-stop-back Budget = refl
+-- for the exports of the C boundary: result, state words, memory and journal
+pub single-export : (c : Call Input) (w ram ws : List ℕ) (r r′ : ℕ) (w₁ w₂ ram₁ ram₂ ws₁ ws₂ : List ℕ) →
+    Crosses c w ram ws r w₁ ram₁ ws₁ → Crosses c w ram ws r′ w₂ ram₂ ws₂ → (r ≡ r′) × (w₁ ≡ w₂) × (ram₁ ≡ ram₂) × (ws₁ ≡ ws₂)
+single-export c w ram ws r r′ w₁ w₂ ram₁ ram₂ ws₁ ws₂ p q =
+    let e = sym p ∙ q in
+    (ap (λ (x : Crossed). x .result) e, ap (λ (x : Crossed). x .words) e, ap (λ (x : Crossed). x .ram) e, ap (λ (x : Crossed). x .journal) e)
 
-abbrev endedFrom : AnswerOf Cpu Ring → Stop → Ended
-endedFrom a t =
-    record {
-      devices = a .world .box .cpu .devices;
-      halted = a .world .box .cpu .halted;
-      place = record { next = a .world .journal .next; held = a .world .journal .held };
-      run = record { steps = a .steps; bus = a .bus; stop = t };
-    }
-
--- for the run: all that it returns, registers, CSRs, memory and journal
-pub single-run : (r r′ : Ended) (g g′ k k′ m m′ ws ws′ : List ℕ) → ranAs r g k m ws ≡ ranAs r′ g′ k′ m′ ws′ → (r ≡ r′) × (g ≡ g′) × (k ≡ k′) × (m ≡ m′) × (ws ≡ ws′)
-single-run r r′ g g′ k k′ m m′ ws ws′ e = (
-  ap (endedFrom (ranAs r g k m ws)) (sym (stop-back (r .run .stop)))
-      ∙ ap (λ (a : AnswerOf Cpu Ring). endedFrom a (stopFrom (a .cause))) e
-      ∙ ap (endedFrom (ranAs r′ g′ k′ m′ ws′)) (stop-back (r′ .run .stop)),
-  ap (λ (a : AnswerOf Cpu Ring). a .world .box .cpu .regs) e,
-  ap (λ (a : AnswerOf Cpu Ring). a .world .box .cpu .csrs) e,
-  ap (λ (a : AnswerOf Cpu Ring). a .world .box .ram) e,
-  ap (λ (a : AnswerOf Cpu Ring). a .world .journal .words) e,
+-- for the recorded step: all that it returns, registers, CSRs, memory and journal
+pub single-recorded : (r r′ : Recorded) (g g′ k k′ m m′ ws ws′ : List ℕ) → turnAs r g k m ws ≡ turnAs r′ g′ k′ m′ ws′ →
+    (r ≡ r′) × (g ≡ g′) × (k ≡ k′) × (m ≡ m′) × (ws ≡ ws′)
+single-recorded r r′ g g′ k k′ m m′ ws ws′ e = (
+  ap recordedFrom e,
+  ap (λ (x : Turn). x .world .box .cpu .regs) e,
+  ap (λ (x : Turn). x .world .box .cpu .csrs) e,
+  ap (λ (x : Turn). x .world .box .ram) e,
+  ap (λ (x : Turn). x .world .journal .words) e,
 )
+  where
+    recordedFrom : Turn → Recorded
+    recordedFrom x =
+        record {
+          board = x .world .box .cpu .board;
+          place = record { next = x .world .journal .next; held = x .world .journal .held };
+          count = x .count;
+          first = x .first;
+          bus = x .bus;
+        }
 
 -- for the step: registers, CSRs, memory and all that it returns
 pub single-step : (g g′ k k′ m m′ : List ℕ) (q q′ : Done) → toldAs g k q m ≡ toldAs g′ k′ q′ m′ → (g ≡ g′) × (k ≡ k′) × (m ≡ m′) × (q ≡ q′)
 single-step g g′ k k′ m m′ q q′ e =
-    (ap (λ (x : Told). x .step .cpu .regs) e, ap (λ (x : Told). x .step .cpu .csrs) e, ap (λ (x : Told). x .step .ram) e, ap doneFrom e)
+    (ap (λ (x : Told). x .step .box .cpu .regs) e, ap (λ (x : Told). x .step .box .cpu .csrs) e, ap (λ (x : Told). x .step .box .ram) e, ap doneFrom e)
   where
     doneFrom : Told → Done
-    doneFrom x =
-        record {
-          devices = x .step .cpu .devices;
-          halted = x .step .cpu .halted;
-          count = x .step .count;
-          first = x .step .first;
-          old = x .old;
-          bus = x .step .bus;
-        }
+    doneFrom x = record { board = x .step .box .cpu .board; count = x .step .count; first = x .step .first; old = x .old; bus = x .step .bus }
 
--- for a write: the devices and memory
-pub single-write : (v v′ : Devices) (m m′ : List ℕ) → bus v m ≡ bus v′ m′ → (v ≡ v′) × (m ≡ m′)
-single-write v v′ m m′ e = (ap (λ (u : Bus). u .devices) e, ap (λ (u : Bus). u .ram) e)
+-- for a write: the rest of the state and memory
+pub single-write : (b b′ : Board) (m m′ : List ℕ) → bus b m ≡ bus b′ m′ → (b ≡ b′) × (m ≡ m′)
+single-write b b′ m m′ e = (ap (λ (u : Bus). u .board) e, ap (λ (u : Bus). u .ram) e)
 
 -- for the instructions whose promise is of more than the registers: CSRs, how many bytes were loaded, memory and all that a store returns
-pub single-move : (g g′ k k′ : List ℕ) → both g k ≡ both g′ k′ → (g ≡ g′) × (k ≡ k′)
+pub single-move : (g g′ k k′ : List ℕ) → moves g k ≡ moves g′ k′ → (g ≡ g′) × (k ≡ k′)
 single-move g g′ k k′ e = (ap (λ (x : Moved). x .regs) e, ap (λ (x : Moved). x .csrs) e)
 
 pub single-load : (g g′ : List ℕ) (n n′ : ℕ) → loads g n ≡ loads g′ n′ → (g ≡ g′) × (n ≡ n′)
@@ -167,4 +163,15 @@ pub single-store : (g g′ m m′ : List ℕ) (q q′ : Written) → overAs g q 
 single-store g g′ m m′ q q′ e = (ap (λ (x : Over). x .stored .regs) e, ap (λ (x : Over). x .stored .bus .ram) e, ap writtenFrom e)
   where
     writtenFrom : Over → Written
-    writtenFrom x = record { devices = x .stored .bus .devices; count = x .stored .count; first = x .stored .first; old = x .old }
+    writtenFrom x = record { board = x .stored .bus .board; count = x .stored .count; first = x .stored .first; old = x .old }
+
+-- for a push to the journal (`history::push`): next slot, records held and the journal's words
+pub single-push : (j : Ring) (p p′ : Place) (ws ws′ : List ℕ) → ringOf ws (p .next) (p .held) ≡ j → ringOf ws′ (p′ .next) (p′ .held) ≡ j → (p ≡ p′) × (ws ≡ ws′)
+single-push j p p′ ws ws′ e e′ =
+    let q = e ∙ sym e′ in
+    (ap (λ (x : Ring). record { next = x .next; held = x .held }) q, ap (λ (x : Ring). x .words) q)
+
+-- for a record read (`records::decode`): all that it returns
+pub single-decode : (w : List ℕ) (r r′ : Before) → undoFrom w ≡ undoAs r → undoFrom w ≡ undoAs r′ → r ≡ r′
+single-decode w r r′ e e′ =
+    ap (λ (u : Undo Cpu). record { cpu = u .cpu; count = u .count; first = u .first; low = u .low; high = u .high }) (sym e ∙ e′)

@@ -9,11 +9,10 @@ use Rattle.bus.specs.Good.{Within}
 use Rattle.bus.specs.declared.state.Cpu.{Cpu}
 use Rattle.history.specs.Trace.{Answer, Call, give, run, back, Left, leaves, upTo, ruled, backNumber}
 use Rattle.history.specs.Ring.{Ring, slots}
-use Rattle.input.specs.Inputs.{Input, step, tick, receive, sent, setRegister, poke, resets, box, machine}
-use Rattle.advance.specs.Standing.{W}
-use Rattle.machine.specs.Calls.{answerOf, worldOf, replied, Keeps, started}
-use Rattle.machine.specs.declared.state.Machine.{Machine}
-use Rattle.machine.specs.declared.state.Reply.{Reply}
+use Rattle.calls.specs.Inputs.{Input, step, tick, receive, sent, setRegister, poke, resets, box, machine}
+use Rattle.calls.specs.Calls.{W, answerOf, worldOf, replied, Keeps, started}
+use Rattle.calls.specs.declared.state.Machine.{Machine}
+use Rattle.calls.specs.declared.state.Reply.{Reply}
 
 -- "of any allowed size"; memory is bytes
 pub record Allowed (m ws : List ℕ) : Type 0 where

@@ -1,12 +1,12 @@
--- The numbers of an answer that the C boundary has a field of fixed width for: its steps and bus bytes, next slot and records held. `proofs/Counts.antt`
--- and `proofs/Places.antt` prove that each fits its field.
+-- The numbers of an answer that the C boundary has a field of fixed width for: its own number, steps and bus bytes, next slot and records held.
+-- `proofs/Counts.antt` and `proofs/Places.antt` prove that each fits its field.
 use Prim.Native.Nat.{_*_, _≤_}
 use mathlib.Core.Path.{_≡_}
 use Rattle.word.specs.Word.{lowAt}
 use Rattle.bus.specs.declared.state.Cpu.{Cpu}
 use Rattle.history.specs.Trace.{Answer, Call, give, run, back}
 use Rattle.history.specs.Ring.{Ring}
-use Rattle.input.specs.Inputs.{Input}
+use Rattle.calls.specs.Inputs.{Input}
 
 -- a run's budget is a word
 abbrev pub Budgeted : Call Input → Type 0
@@ -14,8 +14,9 @@ Budgeted (give i) = Unit {0}
 Budgeted (run n) = n ≤ 65535
 Budgeted back = Unit {0}
 
--- at most 65,535 steps, and at most four bus bytes for each of them
+-- a refusal of the table, at most 65,535 steps, and at most four bus bytes for each of them
 pub record Counted (a : Answer Cpu Ring) : Type 0 where
+  pub number : a .number ≤ 9
   pub steps : a .steps ≤ 65535
   pub each : a .bus ≤ 4 * a .steps
   pub bus : a .bus ≤ 4 * 65535
@@ -25,8 +26,9 @@ pub record Placed (j : Ring) : Type 0 where
   pub next : j .next ≤ 1024
   pub held : j .held ≤ 1024
 
--- "bits 16–31 the steps of a run; bits 32–55 bus bytes (step and run)": these bits are the whole numbers
+-- "bits 0–15 the refusal's number; bits 16–31 the steps of a run; bits 32–55 bus bytes (step and run)": these bits are the whole numbers
 pub record CountsWhole (a : Answer Cpu Ring) : Type 0 where
+  pub number : lowAt 16 (a .number) ≡ a .number
   pub steps : lowAt 16 (a .steps) ≡ a .steps
   pub bus : lowAt 24 (a .bus) ≡ a .bus
 

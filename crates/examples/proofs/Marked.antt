@@ -12,5 +12,6 @@ use Rattle.text.specs.Listing.{textOf}
 use Rattle.examples.specs.Table.{table, AllShown}
 
 pub examples : AllShown
-unfolding table stepOf runs executed meaning due entered illegal settledCsrs settledHalt computed compared moved loaded stored byteAt deviceByte wordAt deviceAfter putByte putWord reset addOf subOf logicOf shraOf aluOf compareOf fromBits textOf
+unfolding table stepOf runs executed meaning due entered illegal settledCsrs settledHalt computed compared moved loaded stored
+    byteAt deviceByte wordAt deviceAfter putByte putWord reset addOf subOf logicOf shraOf aluOf compareOf fromBits textOf
 examples = refl

@@ -5,8 +5,8 @@ use mathlib.Core.Path.{_≡_}
 use mathlib.Core.Bool.{Bool, true, false}
 use mathlib.Core.List.{List, [], _∷_, map}
 use lib.ListN.{set}
-use Rattle.isa.specs.Names.{bytes}
-use Rattle.bus.specs.State.{IA, F, PC, cpu, reset}
+use Rattle.isa.specs.Names.{bytes, IA, F, PC}
+use Rattle.bus.specs.State.{cpu, withHalted, reset}
 use Rattle.bus.specs.declared.state.Cpu.{Cpu}
 use Rattle.cpu.specs.Step.{stepOf}
 use Rattle.text.specs.Listing.{textOf}
@@ -23,7 +23,7 @@ pub data Seen : Type 0 where
 
 -- what the rules and the text show
 abbrev pub shown : Given → Seen
-shown (machine c m) = state (stepOf c m .cpu) (stepOf c m .ram)
+shown (machine c m) = state (stepOf c m .box .cpu) (stepOf c m .box .ram)
 shown (word w) = text (textOf w)
 
 pub record Example : Type 0 where
@@ -33,7 +33,7 @@ pub record Example : Type 0 where
 -- r1, r2, ia, f, pc, csr0 and the halted mark; all else as at the start
 abbrev pub with : ℕ → ℕ → ℕ → ℕ → ℕ → ℕ → Bool → Cpu
 with r1 r2 ia f pc csr0 h =
-    cpu (set (set (set (set (set (reset .regs) 1 r1) 2 r2) IA ia) F f) PC pc) (set (reset .csrs) 0 csr0) (reset .devices) h
+    cpu (set (set (set (set (set (reset .regs) 1 r1) 2 r2) IA ia) F f) PC pc) (set (reset .csrs) 0 csr0) (withHalted (reset .board) h)
 
 -- an instruction at 0, "f, CSRs 0 and pc 0 unless given": r1, r2, f, csr0 and RAM before it, then r1, r2, f, csr0 and the halted mark; RAM stays,
 -- and pc is 2

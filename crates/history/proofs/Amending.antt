@@ -1,5 +1,5 @@
 -- Words put into a slot after its record was pushed give what the amended record gives when pushed.
-use Prim.Native.Nat.{ℕ, zero, suc, _+_, _*_, _/_, _≤_, _<_, min}
+use Prim.Native.Nat.{ℕ, _+_, _*_, _≤_, _<_, min}
 use mathlib.Core.Path.{_≡_, _∙_, sym, ap}
 use mathlib.Core.List.{List, [], _∷_, _++_}
 use native.Mathlib.Omega.{arith}
@@ -8,7 +8,8 @@ use native.Mathlib.Decide.{decLt}
 use borrow.Author.Tests.{lt-ltb, le-ltb}
 use lib.ListN.{length, take, drop, set, length-set}
 use lib.Seq.{paste, set-append-left, take-set-lt, length-take-le, length-paste-head}
-use Rattle.history.specs.Ring.{Ring, ringOf, pushed, slotAfter, slots, three, amended}
+use Rattle.history.specs.Ring.{Ring, ringOf, pushed, slotAfter, slots}
+use Rattle.history.specs.Code.{three, amended}
 use Rattle.history.proofs.Pushing.{push-in, push-out}
 use Rattle.history.proofs.RingLaws.{length-here}
 

@@ -15,14 +15,14 @@ use Rattle.history.specs.Trace.{backNumber, W, after, gave, stepped, ran
 -- what demand 3 needs of the rules' answer in a good state: a refusal has a number; an effect is good again, and touches the bytes it says
 abbrev pub Lawful : {C : Type 0} → (Box C → Type 0) → Box C → Next C → Type 0
 Lawful Good b (refuses n) = 0 < n
-Lawful Good b (gives e) = Good (e .box) × Touched (e .count) (e .at) (b .ram) (e .box .ram)
+Lawful Good b (gives e) = Good (e .box) × Touched (e .count) (e .first) (b .ram) (e .box .ram)
 
 -- what demand 3 needs of the rules: inputs that fit their types, the step among them, are lawful in a good state, and its records are fine
 pub record Ruly (M : Machine) (Fine : Undo (M .C) → Type 0) : Type 1 where
   pub Good : Box (M .C) → Type 0
   pub Fits : M .I → Type 0
   pub stepping : Fits (M .step)
-  pub lawful : (i : M .I) (b : Box (M .C)) → Fits i → Good b → Lawful Good b (M .next i b)
+  pub lawful : (i : M .I) (b : Box (M .C)) → Fits i → Good b → Lawful Good b (M .rule i b)
   pub fines : (b : Box (M .C)) (n a : ℕ) → Good b → Fine (undoOf b n a)
 
 -- what it needs of the journal: `Holds j us` says that j holds the records us, newest first; of u ∷ us a push keeps the newest
@@ -40,14 +40,17 @@ pub data Hist (M : Machine) (Good : Box (M .C) → Type 0) (s : Box (M .C)) : Li
   lost : {is : List (M .I)} {b : Box (M .C)} → ruled M s is ≡ some b → Hist M Good s is b []
   more :
       {is : List (M .I)} {i : M .I} {b : Box (M .C)} {e : Effect (M .C)} {us : List (Undo (M .C))} →
-      Good b → M .next i b ≡ gives e → Touched (e .count) (e .at) (b .ram) (e .box .ram) → Hist M Good s is b us →
-      Hist M Good s (i ∷ is) (e .box) (undoOf b (e .count) (e .at) ∷ us)
+      Good b → M .rule i b ≡ gives e → Touched (e .count) (e .first) (b .ram) (e .box .ram) → Hist M Good s is b us →
+      Hist M Good s (i ∷ is) (e .box) (undoOf b (e .count) (e .first) ∷ us)
+
+abbrev boxed : {C : Type 0} → C → List ℕ → Box C
+boxed c m = record { cpu = c; ram = m }
 
 -- a record brings back the state before
 undone : {C : Type 0} (b : Box C) (n a : ℕ) (m : List ℕ) → Touched n a (b .ram) m → undo (undoOf b n a) m ≡ b
-undone b zero a m t = rw (undone-none a (b .ram) m t)
-undone b (suc zero) a m t = rw (undone-one a (b .ram) m t)
-undone b (suc (suc n)) a m t = rw (undone-two n a (b .ram) m t)
+undone b zero a m t = ap (boxed (b .cpu)) (undone-none a (b .ram) m t)
+undone b (suc zero) a m t = ap (boxed (b .cpu)) (undone-one a (b .ram) m t)
+undone b (suc (suc n)) a m t = ap (boxed (b .cpu)) (undone-two n a (b .ram) m t)
 
 -- calls whose inputs fit their types
 abbrev pub Apt : (M : Machine) (Fine : Undo (M .C) → Type 0) → Ruly M Fine → Call (M .I) → Type 0
@@ -60,7 +63,7 @@ AllApt M Fine L [] = Unit {0}
 AllApt M Fine L (c ∷ cs) = Apt M Fine L c × AllApt M Fine L cs
 
 module _ (M : Machine) (Fine : Undo (M .C) → Type 0) (L : Ruly M Fine) (s : Box (M .C)) where
-  effect : (i : M .I) (b : Box (M .C)) (x : Next (M .C)) → L .Fits i → L .Good b → M .next i b ≡ x → Lawful (L .Good) b x
+  effect : (i : M .I) (b : Box (M .C)) (x : Next (M .C)) → L .Fits i → L .Good b → M .rule i b ≡ x → Lawful (L .Good) b x
   effect i b x f g q = rw q at (L .lawful i b f g)
 
   reached : {is : List (M .I)} {b : Box (M .C)} {us : List (Undo (M .C))} → Hist M (L .Good) s is b us → ruled M s is ≡ some b
@@ -75,7 +78,7 @@ module _ (M : Machine) (Fine : Undo (M .C) → Type 0) (L : Ruly M Fine) (s : Bo
   -- the records held are the newest of those that the rules give for the inputs
   pub newest : {is : List (M .I)} {b : Box (M .C)} {us : List (Undo (M .C))} → Hist M (L .Good) s is b us → us ≡ take (length us) (trail M s is)
   newest (lost p) = refl
-  newest (more {b = b₀} {e = e₀} g q t h) = rw (reached h, q) (ap (λ (l : List (Undo (M .C))). undoOf b₀ (e₀ .count) (e₀ .at) ∷ l) (newest h))
+  newest (more {b = b₀} {e = e₀} g q t h) = rw (reached h, q) (ap (λ (l : List (Undo (M .C))). undoOf b₀ (e₀ .count) (e₀ .first) ∷ l) (newest h))
 
   -- the newest record brings back the state before the newest input
   record Before (is : List (M .I)) (b : Box (M .C)) (u : Undo (M .C)) (us : List (Undo (M .C))) : Type 0 where
@@ -84,7 +87,7 @@ module _ (M : Machine) (Fine : Undo (M .C) → Type 0) (L : Ruly M Fine) (s : Bo
 
   before : {is : List (M .I)} {b : Box (M .C)} {u : Undo (M .C)} {us : List (Undo (M .C))} → Hist M (L .Good) s is b (u ∷ us) → Before is b u us
   before (more {b = b₀} {e = e₀} g q t h) =
-      let p = undone b₀ (e₀ .count) (e₀ .at) (e₀ .box .ram) t in
+      let p = undone b₀ (e₀ .count) (e₀ .first) (e₀ .box .ram) t in
       record { hist = rw p h; good = rw p g }
 
   -- Demand 3's invariant: what stands is what the rules give for the inputs not taken back, and the journal holds the newest records
@@ -95,14 +98,14 @@ module _ (M : Machine) (Fine : Undo (M .C) → Type 0) (L : Ruly M Fine) (s : Bo
       holds : N .Holds (w .journal) us
 
     kept-give :
-        {w : W M K} {is : List (M .I)} {us : List (Undo (M .C))} (i : M .I) (e : Effect (M .C)) → L .Fits i → M .next i (w .box) ≡ gives e → Kept w is us →
-        let us′ = undoOf (w .box) (e .count) (e .at) ∷ us in
+        {w : W M K} {is : List (M .I)} {us : List (Undo (M .C))} (i : M .I) (e : Effect (M .C)) → L .Fits i → M .rule i (w .box) ≡ gives e → Kept w is us →
+        let us′ = undoOf (w .box) (e .count) (e .first) ∷ us in
         Kept (after M K w e) (i ∷ is) (take (N .kept us′) us′)
     kept-give {w} {is} {us} i e f q k =
         record {
-          hist = cut (N .kept (undoOf (w .box) (e .count) (e .at) ∷ us)) (more (k .good) q (effect i (w .box) (gives e) f (k .good) q .1) (k .hist));
+          hist = cut (N .kept (undoOf (w .box) (e .count) (e .first) ∷ us)) (more (k .good) q (effect i (w .box) (gives e) f (k .good) q .1) (k .hist));
           good = effect i (w .box) (gives e) f (k .good) q .0;
-          holds = N .pushed _ _ _ (L .fines (w .box) (e .count) (e .at) (k .good)) (k .holds);
+          holds = N .pushed _ _ _ (L .fines (w .box) (e .count) (e .first) (k .good)) (k .holds);
         }
 
     kept-back :
@@ -125,18 +128,21 @@ module _ (M : Machine) (Fine : Undo (M .C) → Type 0) (L : Ruly M Fine) (s : Bo
         size : length us ≡ l .held
 
       right-give :
-          {w : W M K} {l : Left (M .I)} (i : M .I) (e : Effect (M .C)) → L .Fits i → M .next i (w .box) ≡ gives e → Right w l →
+          {w : W M K} {l : Left (M .I)} (i : M .I) (e : Effect (M .C)) → L .Fits i → M .rule i (w .box) ≡ gives e → Right w l →
           Right (after M K w e) (took grow i l)
       right-give {w} {l} i e f q r =
-          let us = undoOf (w .box) (e .count) (e .at) ∷ r .us in
+          let us = undoOf (w .box) (e .count) (e .first) ∷ r .us in
           record {
             us = take (N .kept us) us;
             kept = kept-give i e f q (r .kept);
-            size = grows i (l .inputs) (e .box) (undoOf (w .box) (e .count) (e .at)) (r .us) (more (r .kept .good) q (effect i (w .box) (gives e) f (r .kept .good) q .1) (r .kept .hist)) ∙ ap (grow (i ∷ l .inputs)) (r .size);
+            size =
+                grows i (l .inputs) (e .box) (undoOf (w .box) (e .count) (e .first)) (r .us)
+                (more (r .kept .good) q (effect i (w .box) (gives e) f (r .kept .good) q .1) (r .kept .hist))
+                ∙ ap (grow (i ∷ l .inputs)) (r .size);
           }
 
       right-gave :
-          (w : W M K) (l : Left (M .I)) (i : M .I) (n : Next (M .C)) → L .Fits i → M .next i (w .box) ≡ n → Right w l →
+          (w : W M K) (l : Left (M .I)) (i : M .I) (n : Next (M .C)) → L .Fits i → M .rule i (w .box) ≡ n → Right w l →
           Right (gave M K w (M .steps i) n .world) (leaves grow (M .step) (give i) (gave M K w (M .steps i) n .number) (gave M K w (M .steps i) n .steps) l)
       right-gave w l i (refuses zero) f q r = absurd (omega (arith, effect i (w .box) (refuses 0) f (r .kept .good) q))
       right-gave w l i (refuses (suc n)) f q r = r
@@ -146,14 +152,14 @@ module _ (M : Machine) (Fine : Undo (M .C) → Type 0) (L : Ruly M Fine) (s : Bo
       Runs n = (w : W M K) (l : Left (M .I)) → Right w l → Right (ran M K n w .world) (tookTimes grow (ran M K n w .steps) (M .step) l)
 
       right-stepped :
-          (n : ℕ) → Runs n → (w : W M K) (l : Left (M .I)) (x : Next (M .C)) → M .next (M .step) (w .box) ≡ x → Right w l →
+          (n : ℕ) → Runs n → (w : W M K) (l : Left (M .I)) (x : Next (M .C)) → M .rule (M .step) (w .box) ≡ x → Right w l →
           Right (stepped M K (ran M K n) w x .world) (tookTimes grow (stepped M K (ran M K n) w x .steps) (M .step) l)
       right-stepped n ih w l (refuses m) q r = r
       right-stepped n ih w l (gives e) q r = ih (after M K w e) (took grow (M .step) l) (right-give (M .step) e (L .stepping) q r)
 
       right-ran : (n : ℕ) → Runs n
       right-ran zero w l r = r
-      right-ran (suc n) w l r = right-stepped n (right-ran n) w l (M .next (M .step) (w .box)) refl r
+      right-ran (suc n) w l r = right-stepped n (right-ran n) w l (M .rule (M .step) (w .box)) refl r
 
       back-number : {w : W M K} {l : Left (M .I)} → Right w l → plain M K back w .number ≡ backNumber (l .held)
       back-number {w} {l} r = go (r .us) (r .kept) (r .size)
@@ -175,7 +181,7 @@ module _ (M : Machine) (Fine : Undo (M .C) → Type 0) (L : Ruly M Fine) (s : Bo
       passed {w} r = passes w (r .us) (r .kept .good) (r .kept .holds)
 
       right-one : (c : Call (M .I)) (p : Played M K check) → Apt M Fine L c → Right (p .world) (p .left) → Right (one M K check grow c p .world) (one M K check grow c p .left)
-      right-one (give i) p f r = rw (passed r) (right-gave (p .world) (p .left) i (M .next i (p .world .box)) f refl r)
+      right-one (give i) p f r = rw (passed r) (right-gave (p .world) (p .left) i (M .rule i (p .world .box)) f refl r)
       right-one (run n) p f r = rw (passed r, number-ran M K n (p .world)) (right-ran n (p .world) (p .left) r)
       right-one back p f r = rw (passed r) (right-back (p .world) (p .left) r)
 

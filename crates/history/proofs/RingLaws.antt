@@ -12,6 +12,7 @@ use lib.ListN.{length, take, drop, getD, length-take, length-drop, List·getD-ap
 use lib.Seq.{paste, length-paste, ext-getD, getD-take, getD-drop, drop-at, take-at, take-all, length-take-le, drop-paste}
 use Rattle.history.specs.Trace.{hands}
 use Rattle.history.proofs.Exact.{Keeping}
+use Rattle.history.proofs.Copying.{before-below}
 use Rattle.history.proofs.Pushing.{push-in, push-out}
 use Rattle.history.specs.Ring.{Ring, slotAfter, slotBefore, slotWords, pushed, popped, ring}
 
@@ -69,10 +70,6 @@ before-after n q h = ⊎-elim (λ w. rw (w .0) (omega (arith, w .1))) (λ w. rw 
 pub after-in : (n q : ℕ) → q < n → slotAfter n q < n
 after-in n q h = ⊎-elim (λ w. rw (w .0) (omega arith)) (λ w. rw (w .0) (w .1)) (after-cases n q h)
 
-before-in : (n p : ℕ) → p < n → slotBefore n p < n
-before-in n zero h = omega arith
-before-in n (suc p) h = omega arith
-
 -- q is none of the slots before p that the records take
 abbrev Clear : {U : Type 0} → ℕ → ℕ → ℕ → List U → Type 0
 Clear n p q [] = Unit {0}
@@ -105,7 +102,7 @@ module _ {U : Type 0} (enc : U → List ℕ) (dec : List ℕ → Option U) (Fine
       Back n ws p us → Back n (paste ws (q * 32) r 32) p us
   back-other [] n ws p q r e hp hq size c b = tt
   back-other (u ∷ us) n ws p q r e hp hq size c b =
-      let z = before-in n p hp in
+      let z = before-below n p hp in
       (slot-other ws q (slotBefore n p) r (omega arith) (omega arith) size (c .0) ∙ b .0, b .1, back-other us n ws (slotBefore n p) q r e z hq size (c .1) (b .2))
 
   pub record RingHolds (n : ℕ) (j : Ring) (us : List U) : Type 0 where
@@ -153,7 +150,7 @@ module _ {U : Type 0} (enc : U → List ℕ) (dec : List ℕ → Option U) (Fine
           rw (slots-are n j (u ∷ us) h, h .count, h .back .0, reads u (h .back .1)),
           record {
             sized = h .sized;
-            inside = omega (arith, before-in n (j .next) q);
+            inside = omega (arith, before-below n (j .next) q);
             count = omega (arith, h .count);
             room = omega (arith, h .room);
             back = h .back .2;

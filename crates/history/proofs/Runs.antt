@@ -18,7 +18,7 @@ module _ (M : Machine) (K : Store (Undo (M .C))) where
 
   pub number-ran : (n : ℕ) (w : W) → ran M K n w .number ≡ 0
   number-ran zero w = refl
-  number-ran (suc n) w = go (M .next (M .step) (w .box))
+  number-ran (suc n) w = go (M .rule (M .step) (w .box))
     where
       go : (x : Next (M .C)) → stepped M K (ran M K n) w x .number ≡ 0
       go (refuses m) = refl
@@ -28,31 +28,31 @@ module _ (M : Machine) (K : Store (Undo (M .C))) where
   ran-start n w = rw sub-zero (same refl (omega arith) (omega arith))
 
   pub ran-more :
-      (n s b : ℕ) (w : W) (e : Effect (M .C)) → s < n → M .next (M .step) (w .box) ≡ gives e →
+      (n s b : ℕ) (w : W) (e : Effect (M .C)) → s < n → M .rule (M .step) (w .box) ≡ gives e →
       plus s b (ran M K (n - s) w) ≡ plus (s + 1) (b + e .bus) (ran M K (n - (s + 1)) (after M K w e))
   ran-more n s b w e l q =
       let k : n - s ≡ suc (n - (s + 1)) = omega arith in
       rw (k, q) (same (sym (number-ran (n - (s + 1)) (after M K w e))) (omega arith) (omega arith))
 
-  pub ran-stopped : (n k s b : ℕ) (w : W) → M .next (M .step) (w .box) ≡ refuses k → plus s b (ran M K n w) ≡ answers 0 s b stopped w
+  pub ran-stopped : (n k s b : ℕ) (w : W) → M .rule (M .step) (w .box) ≡ refuses k → plus s b (ran M K n w) ≡ answers 0 s b stopped w
   ran-stopped zero k s b w q = rw q (same refl (omega arith) (omega arith))
   ran-stopped (suc n) k s b w q = rw q (same refl (omega arith) (omega arith))
 
-  pub ran-done : (n s b : ℕ) (w : W) (e : Effect (M .C)) → n ≤ s → M .next (M .step) (w .box) ≡ gives e → plus s b (ran M K (n - s) w) ≡ answers 0 s b budget w
+  pub ran-done : (n s b : ℕ) (w : W) (e : Effect (M .C)) → n ≤ s → M .rule (M .step) (w .box) ≡ gives e → plus s b (ran M K (n - s) w) ≡ answers 0 s b budget w
   ran-done n s b w e l q = let k : n - s ≡ 0 = omega arith in rw (k, q) (same refl (omega arith) (omega arith))
 
   -- one run after another
-  abbrev pub onward : Answer (M .C) (K .J) → Answer (M .C) (K .J) → Answer (M .C) (K .J)
-  onward a b = answers 0 (a .steps + b .steps) (a .bus + b .bus) (b .cause) (b .world)
+  abbrev pub followed : Answer (M .C) (K .J) → Answer (M .C) (K .J) → Answer (M .C) (K .J)
+  followed a b = answers 0 (a .steps + b .steps) (a .bus + b .bus) (b .cause) (b .world)
 
-  halts : (m k : ℕ) (w : W) → M .next (M .step) (w .box) ≡ refuses k → answers 0 0 0 stopped w ≡ onward (answers 0 0 0 stopped w) (ran M K m w)
+  halts : (m k : ℕ) (w : W) → M .rule (M .step) (w .box) ≡ refuses k → answers 0 0 0 stopped w ≡ followed (answers 0 0 0 stopped w) (ran M K m w)
   halts m k w q = sym (ran-stopped m k 0 0 w q) ∙ same (number-ran m w) refl refl
 
   abbrev Cut : ℕ → ℕ → W → Type 0
-  Cut n m w = ran M K (n + m) w ≡ onward (ran M K n w) (ran M K m (ran M K n w .world))
+  Cut n m w = ran M K (n + m) w ≡ followed (ran M K n w) (ran M K m (ran M K n w .world))
 
-  one-more : (n m : ℕ) (w : W) → ((v : W) → Cut n m v) → (x : Next (M .C)) → M .next (M .step) (w .box) ≡ x
-      → ran M K (suc (n + m)) w ≡ onward (ran M K (suc n) w) (ran M K m (ran M K (suc n) w .world))
+  one-more : (n m : ℕ) (w : W) → ((v : W) → Cut n m v) → (x : Next (M .C)) → M .rule (M .step) (w .box) ≡ x
+      → ran M K (suc (n + m)) w ≡ followed (ran M K (suc n) w) (ran M K m (ran M K (suc n) w .world))
   one-more n m w h (refuses k) q = rw q (halts m k w q)
   one-more n m w h (gives e) q =
       rw q
@@ -64,8 +64,10 @@ module _ (M : Machine) (K : Store (Undo (M .C))) where
   ran-cut zero m w = ap (λ k. ran M K k w) (zero-add m) ∙ same (number-ran m w) (omega arith) (omega arith)
   ran-cut (suc n) m w =
       let l : suc n + m ≡ suc (n + m) = omega arith in
-      ap (λ k. ran M K k w) l ∙ one-more n m w (ran-cut n m) (M .next (M .step) (w .box)) refl
+      ap (λ k. ran M K k w) l ∙ one-more n m w (ran-cut n m) (M .rule (M .step) (w .box)) refl
 
   -- a lone step is a run of one
-  pub ran-one : (w : W) (e : Effect (M .C)) → M .next (M .step) (w .box) ≡ gives e → (ran M K 1 w .world ≡ plain M K (give (M .step)) w .world) × (ran M K 1 w .bus ≡ plain M K (give (M .step)) w .bus)
+  pub ran-one :
+      (w : W) (e : Effect (M .C)) → M .rule (M .step) (w .box) ≡ gives e →
+      (ran M K 1 w .world ≡ plain M K (give (M .step)) w .world) × (ran M K 1 w .bus ≡ plain M K (give (M .step)) w .bus)
   ran-one w e q = (rw q, rw q (omega arith))

@@ -1,4 +1,4 @@
--- Any journal with the laws, whatever it keeps: the number held grows by what the journal's own rule keeps of the newest records. (Q-11's journal is to use this.)
+-- Any journal with the laws, whatever it keeps: the number held grows by what the journal's own rule keeps of the newest records.
 use Prim.Native.Nat.{ℕ, _+_}
 use mathlib.Core.Path.{_≡_, refl, _∙_, ap, sym}
 use mathlib.Core.List.{List, [], _∷_}
@@ -19,7 +19,9 @@ module _ (M : Machine) (Fine : Undo (M .C) → Type 0) (L : Ruly M Fine) (s : Bo
   grows i is b u us h =
       ap (λ (l : List (Undo (M .C))). length (take (N .kept l) l)) (newest M Fine L s h ∙ ap (λ (k : ℕ). take k (trail M s (i ∷ is))) (sym (add-one (length us))))
 
-  pub exact-kept : L .Good s → (j : K .J) → N .Holds j [] → (cs : List (Call (M .I))) → AllApt M Fine L cs → Exactly M K check s (play M K check (keptOf M s (N .kept)) cs (fresh M K check s j))
+  pub exact-kept :
+      L .Good s → (j : K .J) → N .Holds j [] → (cs : List (Call (M .I))) → AllApt M Fine L cs →
+      Exactly M K check s (play M K check (keptOf M s (N .kept)) cs (fresh M K check s j))
   exact-kept = exact M Fine L s K N (keptOf M s (N .kept)) grows check passes
 
 -- the simplest journal: the list of the records itself, cut by any rule

@@ -4,7 +4,7 @@ use mathlib.Core.List.{List}
 use mathlib.Core.Option.{Option, some, none}
 use mathlib.Core.Bool.{cond}
 use lib.Dec.{eqb, ltb}
-use lib.ListN.{length, take, drop, replicate, set}
+use lib.ListN.{length, take, drop}
 use lib.Seq.{paste}
 use Rattle.history.specs.Trace.{Popped, denies, hands, Store}
 
@@ -54,15 +54,3 @@ ring enc dec =
       push = λ u j. pushed (slots (j .words)) (enc u) j;
       pop = λ j. poppedAt dec (slotBefore (slots (j .words)) (j .next)) (j .held) j;
     }
-
--- what a caller of the code gets to read: a slot's words, and 0 past the last slot
-unfoldable pub readable : List ℕ → ℕ → List ℕ
-readable ws k = cond (ltb k (slots ws)) (slotWords ws k) (replicate 32 0)
-
--- three words in a row, from the i-th on
-abbrev pub three : List ℕ → ℕ → ℕ → ℕ → ℕ → List ℕ
-three l i x y z = set (set (set l i x) (i + 1) y) (i + 2) z
-
--- three words of slot k, from the slot's i-th on; nothing where there is no such slot, or the slot ends before the third
-unfoldable pub amended : List ℕ → ℕ → ℕ → ℕ → ℕ → ℕ → List ℕ
-amended ws k i x y z = cond (ltb k (slots ws)) (cond (ltb i 30) (three ws (k * 32 + i) x y z) ws) ws

@@ -3,8 +3,7 @@ use Prim.Native.Nat.{ℕ, zero, suc, _+_, _-_, min}
 use mathlib.Core.Path.{_≡_}
 use mathlib.Core.List.{List, [], _∷_}
 use mathlib.Core.Option.{Option, some, none}
-use lib.ListN.{getD}
-use Rattle.word.specs.Word.{above}
+use Rattle.word.specs.Memory.{oldFirst, oldSecond}
 use Rattle.history.specs.Undo.{restored}
 
 -- a machine with its memory
@@ -16,7 +15,7 @@ pub record Box (C : Type 0) : Type 0 where
 pub record Effect (C : Type 0) : Type 0 where
   pub box : Box C
   pub count : ℕ
-  pub at : ℕ
+  pub first : ℕ
   pub bus : ℕ
 
 -- the rules' answer: a refusal's number, or an effect
@@ -30,25 +29,29 @@ pub record Machine : Type 1 where
   pub I : Type 0
   pub step : I
   pub steps : I → ℕ
-  pub next : I → Box C → Next C
+  pub rule : I → Box C → Next C
 
 -- what a record says: the state before, the bytes written, the first address, the two old bytes
 pub record Undo (C : Type 0) : Type 0 where
   pub cpu : C
   pub count : ℕ
-  pub at : ℕ
+  pub first : ℕ
   pub low : ℕ
   pub high : ℕ
 
--- the record of an input: what is not written, or no RAM, stands as 0
+-- the record of an input that wrote n bytes from a on: the state before, and the bytes that they wrote over
+abbrev pub undoWith : {C : Type 0} → Box C → ℕ → ℕ → Undo C
+undoWith b n a = record { cpu = b .cpu; count = n; first = a; low = oldFirst (b .ram) n a; high = oldSecond (b .ram) n a }
+
+-- "25 bytes written by the input .. (0, 1, 2 ..)"; "26 and 27 are 0 if 25 is 0"
 abbrev pub undoOf : {C : Type 0} → Box C → ℕ → ℕ → Undo C
-undoOf b zero a = record { cpu = b .cpu; count = 0; at = 0; low = 0; high = 0 }
-undoOf b (suc zero) a = record { cpu = b .cpu; count = 1; at = a; low = getD (b .ram) a 0; high = 0 }
-undoOf b (suc (suc n)) a = record { cpu = b .cpu; count = 2; at = a; low = getD (b .ram) a 0; high = getD (b .ram) (above a) 0 }
+undoOf b zero a = undoWith b 0 0
+undoOf b (suc zero) a = undoWith b 1 a
+undoOf b (suc (suc n)) a = undoWith b 2 a
 
 -- the state that a record brings back
 abbrev pub undo : {C : Type 0} → Undo C → List ℕ → Box C
-undo u m = record { cpu = u .cpu; ram = restored (u .count) (u .at) (u .low) (u .high) m }
+undo u m = record { cpu = u .cpu; ram = restored (u .count) (u .first) (u .low) (u .high) m }
 
 -- what a journal hands back: a refusal's number, or its newest record and what is left
 pub data Popped (U J : Type 0) : Type 0 where
@@ -129,7 +132,7 @@ boxOf (gives e) = some (e .box)
 
 abbrev pub onward : (M : Machine) → M .I → Option (Box (M .C)) → Option (Box (M .C))
 onward M i none = none
-onward M i (some b) = boxOf (M .next i b)
+onward M i (some b) = boxOf (M .rule i b)
 
 abbrev pub ruled : (M : Machine) → Box (M .C) → List (M .I) → Option (Box (M .C))
 ruled M s [] = some s
@@ -138,11 +141,11 @@ ruled M s (i ∷ is) = onward M i (ruled M s is)
 -- the records of those inputs, newest first
 abbrev pub recordNext : {C : Type 0} → Box C → Next C → List (Undo C) → List (Undo C)
 recordNext b (refuses n) us = us
-recordNext b (gives e) us = undoOf b (e .count) (e .at) ∷ us
+recordNext b (gives e) us = undoOf b (e .count) (e .first) ∷ us
 
 abbrev pub recordMore : (M : Machine) → M .I → Option (Box (M .C)) → List (Undo (M .C)) → List (Undo (M .C))
 recordMore M i none us = us
-recordMore M i (some b) us = recordNext b (M .next i b) us
+recordMore M i (some b) us = recordNext b (M .rule i b) us
 
 abbrev pub trail : (M : Machine) → Box (M .C) → List (M .I) → List (Undo (M .C))
 trail M s [] = []
@@ -166,7 +169,7 @@ module _ (M : Machine) (K : Store (Undo (M .C))) where
 
   -- an accepted input: the next state, and one record more
   abbrev pub after : W → Effect (M .C) → W
-  after w e = record { box = e .box; journal = K .push (undoOf (w .box) (e .count) (e .at)) (w .journal) }
+  after w e = record { box = e .box; journal = K .push (undoOf (w .box) (e .count) (e .first)) (w .journal) }
 
   abbrev pub gave : W → ℕ → Next (M .C) → A
   gave w s (refuses n) = refusal n w
@@ -189,11 +192,11 @@ module _ (M : Machine) (K : Store (Undo (M .C))) where
       answers 0 (suc (a .steps)) (e .bus + a .bus) (a .cause) (a .world)
 
   abbrev pub ran : ℕ → W → A
-  ran zero w = answers 0 0 0 (causeOf (M .next (M .step) (w .box))) w
-  ran (suc n) w = stepped (ran n) w (M .next (M .step) (w .box))
+  ran zero w = answers 0 0 0 (causeOf (M .rule (M .step) (w .box))) w
+  ran (suc n) w = stepped (ran n) w (M .rule (M .step) (w .box))
 
   abbrev pub plain : Call (M .I) → W → A
-  plain (give i) w = gave w (M .steps i) (M .next i (w .box))
+  plain (give i) w = gave w (M .steps i) (M .rule i (w .box))
   plain (run n) w = ran n w
   plain back w = backed w (K .pop (w .journal))
 

@@ -2,15 +2,22 @@
 pub mod undo;
 
 ghost use mathlib.Core.Path.{_≡_};
-ghost use Prim.Native.Nat.{_+_, _*_, _/_, _≤_, _<_};
+ghost use Prim.Native.Nat.{_+_, _-_, _*_, _≤_, _<_, min};
 ghost use lib.ListN.{length};
 ghost use lib.Seq.{paste};
-ghost use Rattle.history.specs.Ring.{ringOf, pushed, slotBefore, slotAfter, slots, slotWords, readable, amended};
+ghost use Rattle.history.specs.Ring.{ringOf, pushed, slotBefore, slotAfter, slots, slotWords};
+ghost use Rattle.history.specs.Code.{readable, newestOf, amended};
 
 // Next slot and records held.
 pub struct Place {
     pub next: usize,
     pub held: usize,
+}
+
+// A record taken back: its words, and next slot and records held without it.
+pub struct TakenBack {
+    pub words: [u16; 32],
+    pub place: Place,
 }
 
 // A slot's 32 words are written, and nothing else.
@@ -33,6 +40,13 @@ fn slot_after(n: usize, k: usize) -> usize
     if k + 1 == n { 0 } else { k + 1 }
 }
 
+// One record more, up to the slots.
+fn one_more(n: usize, held: usize) -> usize
+    ensures { λ r. ⌜ r ≡ min n (held + 1) ⌝ }
+{
+    if held < n { held + 1 } else { n }
+}
+
 // A record at the next slot, over the oldest if full; nothing where there is no such slot.
 pub fn push(journal: &mut [u16], place: Place, words: [u16; 32]) -> Place
     ensures { λ r. ⌜ ringOf (now (journal .exit)) (r .next) (r .held) ≡ pushed (slots (now (journal .entry))) words (ringOf (now (journal .entry)) (place .next) (place .held)) ⌝ }
@@ -44,16 +58,9 @@ pub fn push(journal: &mut [u16], place: Place, words: [u16; 32]) -> Place
         return place;
     }
     write_slot(journal, next, words);
-    let after = slot_after(n, next);
-    if held < n {
-        return Place {
-            next: after,
-            held: held + 1,
-        };
-    }
     Place {
-        next: after,
-        held: n,
+        next: slot_after(n, next),
+        held: one_more(n, held),
     }
 }
 
@@ -73,14 +80,20 @@ pub fn amend(journal: &mut [u16], slot: usize, from: usize, x: u16, y: u16, z: u
     journal[at + 2] = z;
 }
 
+fn one_less(n: usize) -> usize
+    ensures { λ r. ⌜ r ≡ n - 1 ⌝ }
+{
+    if 0 < n { n - 1 } else { 0 }
+}
+
 // The slot of the newest record.
-pub fn newest(n: usize, next: usize) -> usize
+fn newest(n: usize, next: usize) -> usize
     ensures { λ r. ⌜ r ≡ slotBefore n next ⌝ }
 {
     if 0 < next {
         return next - 1;
     }
-    if 0 < n { n - 1 } else { 0 }
+    one_less(n)
 }
 
 fn copy_slot(journal: &[u16], slot: usize) -> [u16; 32]
@@ -98,11 +111,24 @@ fn copy_slot(journal: &[u16], slot: usize) -> [u16; 32]
 }
 
 // The 32 words of a slot.
-pub fn read_slot(journal: &[u16], slot: usize) -> [u16; 32]
+fn read_slot(journal: &[u16], slot: usize) -> [u16; 32]
     ensures { λ r. ⌜ r ≡ readable (now (journal .entry)) slot ⌝ }
 {
     if slot < journal.len() / 32 {
         return copy_slot(journal, slot);
     }
     [0u16; 32]
+}
+
+// The newest record's words, and next slot and records held once it is taken back. Whether a record is held is the caller's question.
+pub fn pop(journal: &[u16], place: Place) -> TakenBack
+    ensures { λ r. ⌜ r ≡ newestOf (now (journal .entry)) place ⌝ }
+{
+    let slot = newest(journal.len() / 32, place.next);
+    let words = read_slot(journal, slot);
+    let held = one_less(place.held);
+    TakenBack {
+        words,
+        place: Place { next: slot, held },
+    }
 }

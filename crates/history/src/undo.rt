@@ -14,16 +14,16 @@ fn put(ram: &mut [u8], at: u16, b: u8)
     }
 }
 
-// The old bytes, of which `count` were written from `at` on.
-pub fn restore(ram: &mut [u8], count: u16, at: u16, low: u8, high: u8)
-    ensures { λ _. ⌜ now (ram .exit) ≡ restored count at low high (now (ram .entry)) ⌝ }
+// The old bytes, of which `count` were written from `first` on.
+pub fn restore(ram: &mut [u8], count: u16, first: u16, low: u8, high: u8)
+    ensures { λ _. ⌜ now (ram .exit) ≡ restored count first low high (now (ram .entry)) ⌝ }
 {
     if count == 0 {
         return;
     }
-    put(ram, at, low);
+    put(ram, first, low);
     if count == 1 {
         return;
     }
-    put(ram, sums::plus(at, 1), high);
+    put(ram, sums::plus(first, 1), high);
 }

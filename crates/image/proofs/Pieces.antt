@@ -2,15 +2,16 @@
 use mathlib.Core.Path.{_≡_, ap, _∙_}
 use mathlib.Core.Bool.{true}
 use mathlib.Core.List.{List, _++_, append-assoc, append-nil}
-use Prim.Native.Nat.{ℕ, _+_, _-_, _%_, _<_, _≤_}
+use Prim.Native.Nat.{ℕ, _+_, _-_, _%_, _≤_}
 use native.Mathlib.Omega.{arith}
 use borrow.Author.Tests.{le-ltb}
 use lib.ListN.{length, take, drop, length-append, length-drop, take-append-drop, drop-of-length-le}
 use lib.Seq.{sets, sets-eq, drop-drop, take-all}
+use Rattle.isa.specs.Names.{bytes as Names·bytes}
 use Rattle.isa.specs.Opcode.{givesReason2}
 use Rattle.text.specs.Listing.{textOf, listLeaves}
-use Rattle.text.proofs.KeyTexts.{sets-append}
-use Rattle.text.proofs.Returning.{Seen, sixteen}
+use Rattle.text.proofs.Fitting.{sets-append}
+use Rattle.text.proofs.Returning.{Seen}
 use Rattle.image.specs.Image.{instructionOf}
 
 -- a text that was stored from a place on, the place after it, and what the output is then
@@ -60,14 +61,20 @@ module _ (out : List ℕ) (at : ℕ) where
 
 -- ---- an instruction's text, as listing it says
 
+-- where there is room for the line's end too
+pub seen-room : (w n at size : ℕ) → at + length (instructionOf w ++ Names·bytes "\n") ≤ size → Seen w n → at + n + 1 ≤ size
+seen-room w n at size h s =
+    let g = simp length-append at (rw (s .legal) at h) in
+    omega (arith, s .whole)
+
 module _ (w at : ℕ) (out left : List ℕ) (e : left ≡ listLeaves w (rest out at)) where
-  pub listed-text : (n : ℕ) → w < 65536 → at + 16 ≤ length out → Seen w n → Put out at (instructionOf w) (at + n) (back out at left)
+  pub listed-text : (n : ℕ) → at + length (instructionOf w) ≤ length out → Seen w n → Put out at (instructionOf w) (at + n) (back out at left)
   unfolding listLeaves
-  listed-text n h r s =
-      let k = sixteen w h in
+  listed-text n r s =
+      let k : at + length (textOf w) ≤ length out = rw (s .legal) at r in
       let l : length (textOf w) ≤ length (rest out at) = omega (arith, rest-long out at) in
       let p : left ≡ textOf w ++ drop (length (textOf w)) (rest out at) = e ∙ (rw (s .legal, le-ltb _ _ l)) in
-      rw (s .legal, p) (record { place = ap (λ (i : ℕ). at + i) (s .whole); bytes = placed out at (textOf w) (omega arith) })
+      rw (s .legal, p) (record { place = ap (λ (i : ℕ). at + i) (s .whole); bytes = placed out at (textOf w) k })
 
   pub listed-none : givesReason2 (w % 256) ≡ true → back out at left ≡ out
   unfolding listLeaves

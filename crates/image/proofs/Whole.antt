@@ -1,16 +1,18 @@
 -- The header and the whole output.
-use mathlib.Core.Path.{_≡_, refl, ap, _∙_}
+use mathlib.Core.Path.{_≡_, refl}
 use mathlib.Core.Bool.{Bool, true, false, cond, _&&_, and-false}
-use mathlib.Core.List.{List, _++_}
-use Prim.Native.Nat.{ℕ, _+_, _<_, _≤_}
+use mathlib.Core.List.{List}
+use Prim.Native.Nat.{ℕ, zero, suc, _+_, _*_, _<_, _≤_}
 use native.Mathlib.Omega.{arith}
-use borrow.Author.Tests.{leb-true, le-leb, lt-leb, le-ltb}
-use lib.Dec.{leb}
-use lib.ListN.{length, drop, length-drop}
-use lib.Seq.{sets, sets-eq}
+use borrow.Author.Tests.{leb-true, le-leb, lt-leb, eq-eqb, ne-eqb}
+use lib.Dec.{eqb, leb}
+use lib.ListN.{length, getD, drop, length-drop}
 use Rattle.isa.specs.Names.{bytes}
-use Rattle.image.specs.Image.{linesOf, headerOf, listingOf, listingSays, listingLeaves, room}
-use Rattle.image.specs.declared.Output.the-variants.{Written}
+use Rattle.text.specs.Answer.{Answer}
+use Rattle.text.proofs.Unique.{read-back}
+use Rattle.image.specs.Image.{linesOf, hexValue, headerOf, listingOf, writtenAs}
+use Rattle.image.specs.declared.Output.{Output}
+use Rattle.image.specs.declared.Output.the-variants.{Written, NoRoom}
 use Rattle.image.specs.declared.header.Header.{Header}
 use Rattle.image.specs.declared.header.Header.the-variants.{At, Bad}
 
@@ -22,16 +24,44 @@ header-long s a = go (leb 5 (length s)) refl _ _
     go true e r h q = leb-true 5 (length s) e
     go false e r h q = let z : _≡_ {A = ℕ} 0 1 = cc in absurd (omega arith)
 
--- a text that was written at the front
-pub front : (out t : List ℕ) → length t ≤ length out → sets out 0 t ≡ t ++ drop (length t) out
-front out t h =
-    let z : 0 + length t ≡ length t = omega arith in
-    sets-eq t out 0 (omega arith) ∙ (rw z)
+-- ---- the header, test by test
 
-pub said : (s out t : List ℕ) (n : ℕ) (left : List ℕ) → room ≤ length out → listingOf s ≡ t → length t ≤ length out → n ≡ length t → left ≡ sets out 0 t
-    → (Written n ≡ listingSays s (length out)) × (left ≡ listingLeaves s out)
-said s out t n left h e l p q =
-    (rw (le-ltb (length out) room h, e) (ap Written p), rw (le-ltb (length out) room h, e) (q ∙ front out t l))
+pub short-header : (s : List ℕ) → length s < 5 → Bad ≡ headerOf s
+unfolding headerOf
+short-header s h = rw (lt-leb 5 (length s) h)
+
+pub open-header : (s : List ℕ) → (getD s 4 0 ≡ 10 → ⊥) → Bad ≡ headerOf s
+unfolding headerOf
+open-header s h = rw (ne-eqb (getD s 4 0) 10 h, and-false (leb 5 (length s)))
+
+-- one of the four is no digit
+pub no-digit : (s : List ℕ) (i d : ℕ) → i < 4 → d ≡ hexValue (getD s i 0) → 15 < d → Bad ≡ headerOf s
+unfolding headerOf
+no-digit s zero d h e l = simp (← e, lt-leb d 15 l, and-false)
+no-digit s (suc zero) d h e l = simp (← e, lt-leb d 15 l, and-false)
+no-digit s (suc (suc zero)) d h e l = simp (← e, lt-leb d 15 l, and-false)
+no-digit s (suc (suc (suc zero))) d h e l = simp (← e, lt-leb d 15 l, and-false)
+no-digit s (suc (suc (suc (suc i)))) d h e l = absurd (omega arith)
+
+pub whole-header : (s : List ℕ) (a b c d : ℕ) → 5 ≤ length s → getD s 4 0 ≡ 10
+    → (a ≡ hexValue (getD s 0 0)) × (b ≡ hexValue (getD s 1 0)) × (c ≡ hexValue (getD s 2 0)) × (d ≡ hexValue (getD s 3 0))
+    → (a ≤ 15) × (b ≤ 15) × (c ≤ 15) × (d ≤ 15) → At (4096 * a + 256 * b + 16 * c + d) ≡ headerOf s
+unfolding headerOf
+whole-header s a b c d h n e l =
+    rw (
+      le-leb 5 (length s) h,
+      eq-eqb (getD s 4 0) 10 n,
+      ← e .0,
+      ← e .1,
+      ← e .2,
+      ← e .3,
+      le-leb a 15 (l .0),
+      le-leb b 15 (l .1),
+      le-leb c 15 (l .2),
+      le-leb d 15 (l .3),
+    )
+
+-- ---- the whole text, by the header and the length
 
 pub says-bad : (s : List ℕ) → headerOf s ≡ Bad → listingOf s ≡ bytes "bad header\n"
 unfolding listingOf
@@ -53,3 +83,15 @@ module _ (s : List ℕ) (a : ℕ) (e : headerOf s ≡ At a) where
   says-lines h k =
       let l = header-long s a e in
       rw (e, le-leb (length (drop 5 s)) 60000 (simp length-drop (omega arith)), le-leb (a + length (drop 5 s)) 65536 (simp length-drop (omega arith)))
+
+-- ---- no second answer satisfies the promise
+
+abbrev writtenOf : Answer → Output
+writtenOf a = cond (eqb (a .no) 11) NoRoom (Written (a .value))
+
+written-back : (r : Output) → writtenOf (writtenAs r) ≡ r
+written-back (Written n) = refl
+written-back NoRoom = refl
+
+pub written-one : (r s : Output) → writtenAs r ≡ writtenAs s → r ≡ s
+written-one = read-back writtenAs writtenOf written-back

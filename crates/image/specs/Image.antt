@@ -6,9 +6,10 @@ use lib.Dec.{eqb, leb, ltb}
 use lib.ListN.{length, getD, drop}
 use Rattle.isa.specs.Names.{bytes}
 use Rattle.isa.specs.Opcode.{givesReason2}
-use Rattle.text.specs.Listing.{textOf}
+use Rattle.text.specs.Answer.{Answer, accepted, refused}
+use Rattle.text.specs.Listing.{textOf, fitSays, fitLeaves}
 use Rattle.image.specs.declared.Output.{Output}
-use Rattle.image.specs.declared.Output.the-variants.{Written, TooSmall}
+use Rattle.image.specs.declared.Output.the-variants.{Written, NoRoom}
 use Rattle.image.specs.declared.header.Header.{Header}
 use Rattle.image.specs.declared.header.Header.the-variants.{At, Bad}
 
@@ -67,12 +68,14 @@ outputOf Bad s = bytes "bad header\n"
 unfoldable pub listingOf : List ℕ → List ℕ
 listingOf s = outputOf (headerOf s) s
 
--- the call wants room for the longest listing, 840,000 bytes; this is no refusal of the paper's, and has no number
-abbrev pub room : ℕ
-room = 840000
+-- the paper's number and value for each answer: the value is the text's length
+abbrev pub writtenAs : Output → Answer
+writtenAs (Written n) = accepted n
+writtenAs NoRoom = refused 11
 
-abbrev pub listingSays : List ℕ → ℕ → Output
-listingSays s size = cond (ltb size room) TooSmall (Written (length (listingOf s)))
+-- "11 output shorter than the text"; "Every refusal .. changes no lent byte"; "output past it stays as it was"
+abbrev pub listingSays : List ℕ → ℕ → Answer
+listingSays s room = fitSays (listingOf s) room
 
 abbrev pub listingLeaves : List ℕ → List ℕ → List ℕ
-listingLeaves s out = cond (ltb (length out) room) out (listingOf s ++ drop (length (listingOf s)) out)
+listingLeaves s out = fitLeaves (listingOf s) out

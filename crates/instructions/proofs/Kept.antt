@@ -17,8 +17,10 @@ use Rattle.isa.specs.declared.opcode.LoadOp.{LoadOp}
 use Rattle.isa.specs.declared.opcode.LoadOp.the-variants.{Ld, Ldb, Ldis, LdIf, LdisIf}
 use Rattle.isa.specs.declared.opcode.StoreOp.{StoreOp}
 use Rattle.isa.specs.declared.opcode.StoreOp.the-variants.{Sto, Stob, Ddsto}
-use Rattle.bus.specs.State.{F, IA, PC, word}
-use Rattle.bus.specs.Good.{Within, GoodRegs, GoodCsrs, GoodDevices}
+use Rattle.isa.specs.Names.{F, IA, PC}
+use Rattle.bus.specs.State.{word}
+use Rattle.bus.specs.Good.{Within, GoodRegs, GoodCsrs, GoodDevices, GoodBoard}
+use Rattle.bus.specs.declared.state.Board.{Board}
 use Rattle.bus.specs.declared.state.Devices.{Devices}
 use Rattle.bus.proofs.Kept.{picked, reg-set, csr0-set, csr-set, byte-in, word-in, GoodBus, byte-put, word-put}
 use Rattle.instructions.specs.Instructions.{flagged, computed, compared, csrRead, csrWritten, Moved, moved, Loaded, loaded, plus2, minus2, Stored, stored}
@@ -78,10 +80,10 @@ pub record GoodStored (x : Stored) : Type 0 where
   pub regs : GoodRegs (x .regs)
   pub bus : GoodBus (x .bus)
 
-pub stored-good : (op : StoreOp) {g : List ℕ} {v : Devices} {m : List ℕ} (d s : ℕ) → GoodRegs g → GoodDevices v → Within 8 m → GoodStored (stored op g v m d s)
+pub stored-good : (op : StoreOp) {g : List ℕ} {b : Board} {m : List ℕ} (d s : ℕ) → GoodRegs g → GoodBoard b → Within 8 m → GoodStored (stored op g b m d s)
 unfolding stored
-stored-good Sto {g} d s r gv gm = record { regs = r; bus = word-put (word g d) (record { devices = gv; ram = gm }) (r .words .at s) }
-stored-good Stob {g} d s r gv gm = record { regs = r; bus = byte-put (word g d) (record { devices = gv; ram = gm }) (low-below 8 (word g s)) }
-stored-good Ddsto {g} d s r gv gm =
+stored-good Sto {g} d s r gb gm = record { regs = r; bus = word-put (word g d) (record { board = gb; ram = gm }) (r .words .at s) }
+stored-good Stob {g} d s r gb gm = record { regs = r; bus = byte-put (word g d) (record { board = gb; ram = gm }) (low-below 8 (word g s)) }
+stored-good Ddsto {g} d s r gb gm =
     let r′ = minus2-good d r in
-    record { regs = r′; bus = word-put (word (minus2 g d) d) (record { devices = gv; ram = gm }) (r′ .words .at s) }
+    record { regs = r′; bus = word-put (word (minus2 g d) d) (record { board = gb; ram = gm }) (r′ .words .at s) }

@@ -12,20 +12,21 @@ use Rattle.isa.specs.declared.opcode.LoadOp.{LoadOp}
 use Rattle.isa.specs.declared.opcode.LoadOp.the-variants.{Ld, Ldb, Ldis, LdIf, LdisIf}
 use Rattle.isa.specs.declared.opcode.StoreOp.{StoreOp}
 use Rattle.isa.specs.declared.opcode.StoreOp.the-variants.{Sto, Stob, Ddsto}
-use Rattle.bus.specs.State.{F, word}
+use Rattle.isa.specs.Names.{F}
+use Rattle.bus.specs.State.{word}
 use Rattle.bus.specs.Addresses.{bus, putByte, putWord}
+use Rattle.bus.specs.declared.state.Board.{Board}
 use Rattle.bus.specs.declared.state.Devices.{Devices}
-use Rattle.instructions.specs.Instructions.{both, moved, loads, loadedWord, loadedByte, loaded, plus2, stores, storedWord, storedByte, minus2, stored}
-use Rattle.instructions.specs.Over.{overOf}
-use Rattle.instructions.specs.Asked.{loadsByte, goes, stepsAfter, stepsPast, storesByte, lowers}
+use Rattle.instructions.specs.Instructions.{moves, moved, loads, loadedWord, loadedByte, loaded, plus2, stores, storedWord, storedByte, minus2, stored}
+use Rattle.instructions.specs.Code.{loadsByte, goes, stepsAfter, stepsPast, storesByte, lowers, overOf}
 
 -- registers, opcode, destination, source, and what the condition is
 module _ (g : List ℕ) (o d s : ℕ) (t : Bool) (e : t ≡ conditionHolds o (word g F)) where
-  pub move-does : (op : MoveOp) (k : List ℕ) → op ≡ MvIf → t ≡ true → both (set g d (word g s)) k ≡ moved op g k o d s
+  pub move-does : (op : MoveOp) (k : List ℕ) → op ≡ MvIf → t ≡ true → moves (set g d (word g s)) k ≡ moved op g k o d s
   unfolding moved
   move-does op k p q = rw (p, sym e ∙ q)
 
-  pub move-stays : (op : MoveOp) (k : List ℕ) → op ≡ MvIf → t ≡ false → both g k ≡ moved op g k o d s
+  pub move-stays : (op : MoveOp) (k : List ℕ) → op ≡ MvIf → t ≡ false → moves g k ≡ moved op g k o d s
   unfolding moved
   move-stays op k p q = rw (p, sym e ∙ q)
 
@@ -56,20 +57,20 @@ module _ (g : List ℕ) (v : Devices) (m : List ℕ) (o d s : ℕ) (op : LoadOp)
     none-loads q a z g′ r = rw (load-asked op g v m o d s, sym e ∙ p, sym h, sym k ∙ q, sym z, r)
 
 -- a store, by what is asked of its operation
-store-asked : (op : StoreOp) (g : List ℕ) (v : Devices) (m : List ℕ) (d s : ℕ) → stored op g v m d s
-    ≡ cond (storesByte op) (storedByte (cond (lowers op) (minus2 g d) g) v m d s) (storedWord (cond (lowers op) (minus2 g d) g) v m d s)
+store-asked : (op : StoreOp) (g : List ℕ) (b : Board) (m : List ℕ) (d s : ℕ) → stored op g b m d s
+    ≡ cond (storesByte op) (storedByte (cond (lowers op) (minus2 g d) g) b m d s) (storedWord (cond (lowers op) (minus2 g d) g) b m d s)
 unfolding stored
-store-asked Sto g v m d s = refl
-store-asked Stob g v m d s = refl
-store-asked Ddsto g v m d s = refl
+store-asked Sto g b m d s = refl
+store-asked Stob g b m d s = refl
+store-asked Ddsto g b m d s = refl
 
--- registers before and after the decrement, devices, memory, destination, source, and whether a byte is stored
-module _ (g g′ : List ℕ) (v : Devices) (m : List ℕ) (d s : ℕ) (op : StoreOp) (l b : Bool) (el : l ≡ lowers op) (r : g′ ≡ cond l (minus2 g d) g)
+-- registers before and after the decrement, the board, memory, destination, source, and whether a byte is stored
+module _ (g g′ : List ℕ) (u : Board) (m : List ℕ) (d s : ℕ) (op : StoreOp) (l b : Bool) (el : l ≡ lowers op) (r : g′ ≡ cond l (minus2 g d) g)
     (e : b ≡ storesByte op) where
   pub byte-stores : b ≡ true → (y : ℕ) → y ≡ lowAt 8 (word g′ s)
-      → overOf m (stores g′ (putByte (bus v m) (word g′ d) y) 1 (word g′ d)) ≡ overOf m (stored op g v m d s)
-  byte-stores p y z = rw (store-asked op g v m d s, sym e ∙ p, sym el, sym r, z)
+      → overOf m (stores g′ (putByte (bus u m) (word g′ d) y) 1 (word g′ d)) ≡ overOf m (stored op g u m d s)
+  byte-stores p y z = rw (store-asked op g u m d s, sym e ∙ p, sym el, sym r, z)
 
   pub word-stores : b ≡ false
-      → overOf m (stores g′ (putWord (bus v m) (word g′ d) (word g′ s)) 2 (word g′ d)) ≡ overOf m (stored op g v m d s)
-  word-stores p = rw (store-asked op g v m d s, sym e ∙ p, sym el, sym r)
+      → overOf m (stores g′ (putWord (bus u m) (word g′ d) (word g′ s)) 2 (word g′ d)) ≡ overOf m (stored op g u m d s)
+  word-stores p = rw (store-asked op g u m d s, sym e ∙ p, sym el, sym r)

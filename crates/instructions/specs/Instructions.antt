@@ -1,5 +1,5 @@
--- What each legal instruction does, by groups. Below, g are the registers, k the CSRs, v the devices, m the RAM; the instruction's opcode is o,
--- its destination d, its source s. A result is told from what stood before it: "Operands are read before results are stored".
+-- What each legal instruction does, by groups. Below, g are the registers, k the CSRs, v the devices, b all that the state has beside registers and
+-- CSRs, m the RAM; the instruction's opcode is o, its destination d, its source s. A result is told from what stood before it: "Operands are read before results are stored".
 use mathlib.Core.Bool.{cond}
 use mathlib.Core.List.{List}
 use Prim.Native.Nat.{ℕ}
@@ -18,8 +18,10 @@ use Rattle.isa.specs.declared.opcode.LoadOp.{LoadOp}
 use Rattle.isa.specs.declared.opcode.LoadOp.the-variants.{Ld, Ldb, Ldis, LdIf, LdisIf}
 use Rattle.isa.specs.declared.opcode.StoreOp.{StoreOp}
 use Rattle.isa.specs.declared.opcode.StoreOp.the-variants.{Sto, Stob, Ddsto}
-use Rattle.bus.specs.State.{F, IA, PC, word}
+use Rattle.isa.specs.Names.{F, IA, PC}
+use Rattle.bus.specs.State.{word}
 use Rattle.bus.specs.Addresses.{byteAt, wordAt, Bus, bus, putByte, putWord}
+use Rattle.bus.specs.declared.state.Board.{Board}
 use Rattle.bus.specs.declared.state.Devices.{Devices}
 
 -- z, c, s, o, given at their places in f, take the place of its bits 4 to 7
@@ -52,20 +54,20 @@ pub record Moved : Type 0 where
   pub regs : List ℕ
   pub csrs : List ℕ
 
-abbrev pub both : List ℕ → List ℕ → Moved
-both g k = record { regs = g; csrs = k }
+abbrev pub moves : List ℕ → List ℕ → Moved
+moves g k = record { regs = g; csrs = k }
 
 -- "Atomically sets bit ie (interrupts enabled) in register f, moves the value from register ia to register pc, and reads the value from csr1 to ia."
 abbrev pub returned : List ℕ → ℕ → List ℕ
 returned g handler = set (set (set g F (orAt 16 (word g F) 0x0100)) PC (word g IA)) IA handler
 
 unfoldable pub moved : MoveOp → List ℕ → List ℕ → ℕ → ℕ → ℕ → Moved
-moved Csrr g k o d s = both (set g d (csrRead k s)) k
-moved Csrw g k o d s = both g (csrWritten k d (word g s))
-moved Exch g k o d s = both (set (set g d (word g s)) s (word g d)) k
-moved Mv g k o d s = both (set g d (word g s)) k
-moved MvIf g k o d s = both (cond (conditionHolds o (word g F)) (set g d (word g s)) g) k
-moved Reti g k o d s = both (returned g (word k 1)) k
+moved Csrr g k o d s = moves (set g d (csrRead k s)) k
+moved Csrw g k o d s = moves g (csrWritten k d (word g s))
+moved Exch g k o d s = moves (set (set g d (word g s)) s (word g d)) k
+moved Mv g k o d s = moves (set g d (word g s)) k
+moved MvIf g k o d s = moves (cond (conditionHolds o (word g F)) (set g d (word g s)) g) k
+moved Reti g k o d s = moves (returned g (word k 1)) k
 
 -- registers, and how many bytes were loaded
 pub record Loaded : Type 0 where
@@ -104,17 +106,17 @@ pub record Stored : Type 0 where
 abbrev pub stores : List ℕ → Bus → ℕ → ℕ → Stored
 stores g u n a = record { regs = g; bus = u; count = n; first = a }
 
-abbrev pub storedWord : List ℕ → Devices → List ℕ → ℕ → ℕ → Stored
-storedWord g v m d s = stores g (putWord (bus v m) (word g d) (word g s)) 2 (word g d)
+abbrev pub storedWord : List ℕ → Board → List ℕ → ℕ → ℕ → Stored
+storedWord g b m d s = stores g (putWord (bus b m) (word g d) (word g s)) 2 (word g d)
 
-abbrev pub storedByte : List ℕ → Devices → List ℕ → ℕ → ℕ → Stored
-storedByte g v m d s = stores g (putByte (bus v m) (word g d) (lowAt 8 (word g s))) 1 (word g d)
+abbrev pub storedByte : List ℕ → Board → List ℕ → ℕ → ℕ → Stored
+storedByte g b m d s = stores g (putByte (bus b m) (word g d) (lowAt 8 (word g s))) 1 (word g d)
 
 abbrev pub minus2 : List ℕ → ℕ → List ℕ
 minus2 g i = set g i (minusAt 16 (word g i) 2)
 
-unfoldable pub stored : StoreOp → List ℕ → Devices → List ℕ → ℕ → ℕ → Stored
-stored Sto g v m d s = storedWord g v m d s
-stored Stob g v m d s = storedByte g v m d s
+unfoldable pub stored : StoreOp → List ℕ → Board → List ℕ → ℕ → ℕ → Stored
+stored Sto g b m d s = storedWord g b m d s
+stored Stob g b m d s = storedByte g b m d s
 -- "ddsto stores the decremented number" where one register is both: the destination loses 2 before the store
-stored Ddsto g v m d s = storedWord (minus2 g d) v m d s
+stored Ddsto g b m d s = storedWord (minus2 g d) b m d s

@@ -1,3 +1,2 @@
 pub mod Instructions
-pub mod Asked
-pub mod Over
+pub mod Code

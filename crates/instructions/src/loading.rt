@@ -14,7 +14,7 @@ ghost use Rattle.word.specs.Word.{joinAt, lowAt, highAt};
 ghost use Rattle.bus.specs.State.{word as wordIn};
 ghost use Rattle.bus.specs.Addresses.{byteAt, wordAt};
 ghost use Rattle.instructions.specs.Instructions.{loads, loaded, plus2};
-ghost use Rattle.instructions.specs.Asked.{loadsByte, goes as goesIf, stepsAfter, stepsPast};
+ghost use Rattle.instructions.specs.Code.{loadsByte, goes as goesIf, stepsAfter, stepsPast};
 
 fn load_word(regs: &mut [u16; 16], v: Devices, ram: &[u8], d: usize, at: u16)
     requires { ⌜ d < 16 ⌝ }

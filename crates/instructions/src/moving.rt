@@ -8,7 +8,7 @@ use word::bits;
 use word::halves;
 ghost use mathlib.Core.Path.{_≡_};
 ghost use Rattle.word.specs.Word.{lowAt, highAt};
-ghost use Rattle.instructions.specs.Instructions.{csrRead, csrWritten, both, moved, returned};
+ghost use Rattle.instructions.specs.Instructions.{csrRead, csrWritten, moves, moved, returned};
 
 fn read_csr(csrs: &[u16; 6], i: usize) -> u16
     ensures { λ r. ⌜ r ≡ csrRead (now (csrs .entry)) i ⌝ }
@@ -40,7 +40,7 @@ fn return_from(regs: &mut [u16; 16], handler: u16)
 }
 
 pub fn transfer(regs: &mut [u16; 16], csrs: &mut [u16; 6], op: MoveOp, opcode: u8, operands: u8)
-    ensures { λ _. ⌜ both (now (regs .exit)) (now (csrs .exit)) ≡ moved op (now (regs .entry)) (now (csrs .entry)) opcode (highAt 4 operands) (lowAt 4 operands) ⌝ }
+    ensures { λ _. ⌜ moves (now (regs .exit)) (now (csrs .exit)) ≡ moved op (now (regs .entry)) (now (csrs .entry)) opcode (highAt 4 operands) (lowAt 4 operands) ⌝ }
 {
     let d = (operands / 16) as usize;
     let s = (operands % 16) as usize;

@@ -1,6 +1,6 @@
 // Stores, with the bytes that they write over.
 use bus::address;
-use bus::state::Devices;
+use bus::state::Board;
 use isa::opcode::StoreOp;
 use word::halves;
 use word::sums;
@@ -9,49 +9,48 @@ ghost use mathlib.Core.Bool.{cond};
 ghost use mathlib.Core.List.{List};
 ghost use Prim.Native.Nat.{ℕ, _<_, _≤_};
 ghost use Rattle.word.specs.Word.{lowAt, highAt};
-ghost use Rattle.bus.specs.State.{word as wordIn};
+ghost use Rattle.word.specs.Memory.{byteIn};
 ghost use Rattle.bus.specs.Addresses.{bus as busAt, putByte, putWord};
 ghost use Rattle.instructions.specs.Instructions.{stores, minus2, stored};
-ghost use Rattle.instructions.specs.Asked.{lowers as lowersFirst, storesByte};
-ghost use Rattle.instructions.specs.Over.{overOf, overAs};
+ghost use Rattle.instructions.specs.Code.{lowers as lowersFirst, storesByte, overOf, overAs};
 
 // What a store leaves, beside the lent registers and bytes.
 pub struct Written {
-    pub devices: Devices,
+    pub board: Board,
     pub count: u8,
     pub first: u16,
     pub old: u16,
 }
 
 fn old_byte(ram: &[u8], a: u16) -> u8
-    ensures { λ r. ⌜ r ≡ wordIn (now (ram .entry)) a ⌝ }
+    ensures { λ r. ⌜ r ≡ byteIn (now (ram .entry)) a ⌝ }
 {
     let i = a as usize;
     if i < ram.len() { ram[i] } else { 0 }
 }
 
-fn store_word(v: Devices, ram: &mut [u8], a: u16, w: u16) -> Written
-    ensures { λ q. ⌜ ((g : List ℕ) → overAs g q (now (ram .exit)) ≡ overOf (now (ram .entry)) (stores g (putWord (busAt v (now (ram .entry))) a w) 2 a)) ⌝ }
+fn store_word(b: Board, ram: &mut [u8], a: u16, w: u16) -> Written
+    ensures { λ q. ⌜ ((g : List ℕ) → overAs g q (now (ram .exit)) ≡ overOf (now (ram .entry)) (stores g (putWord (busAt b (now (ram .entry))) a w) 2 a)) ⌝ }
     ensures few { λ q. ⌜ q .count ≤ 2 ⌝ }
 {
     let old = halves::join(old_byte(ram, a), old_byte(ram, sums::plus(a, 1)));
-    let u = address::write_word(v, ram, a, w);
+    let u = address::write_word(b, ram, a, w);
     Written {
-        devices: u,
+        board: u,
         count: 2,
         first: a,
         old,
     }
 }
 
-fn store_byte(v: Devices, ram: &mut [u8], a: u16, b: u8) -> Written
-    ensures { λ q. ⌜ ((g : List ℕ) → overAs g q (now (ram .exit)) ≡ overOf (now (ram .entry)) (stores g (putByte (busAt v (now (ram .entry))) a b) 1 a)) ⌝ }
+fn store_byte(b: Board, ram: &mut [u8], a: u16, x: u8) -> Written
+    ensures { λ q. ⌜ ((g : List ℕ) → overAs g q (now (ram .exit)) ≡ overOf (now (ram .entry)) (stores g (putByte (busAt b (now (ram .entry))) a x) 1 a)) ⌝ }
     ensures few { λ q. ⌜ q .count ≤ 2 ⌝ }
 {
     let old = halves::join(old_byte(ram, a), 0);
-    let u = address::write_byte(v, ram, a, b);
+    let u = address::write_byte(b, ram, a, x);
     Written {
-        devices: u,
+        board: u,
         count: 1,
         first: a,
         old,
@@ -89,8 +88,8 @@ fn stores_byte(op: StoreOp) -> bool
 }
 
 // One store of a word for sto and ddsto, as `load` has one load of a word.
-pub fn store(regs: &mut [u16; 16], v: Devices, ram: &mut [u8], op: StoreOp, operands: u8) -> Written
-    ensures { λ q. ⌜ overAs (now (regs .exit)) q (now (ram .exit)) ≡ overOf (now (ram .entry)) (stored op (now (regs .entry)) v (now (ram .entry)) (highAt 4 operands) (lowAt 4 operands)) ⌝ }
+pub fn store(regs: &mut [u16; 16], b: Board, ram: &mut [u8], op: StoreOp, operands: u8) -> Written
+    ensures { λ q. ⌜ overAs (now (regs .exit)) q (now (ram .exit)) ≡ overOf (now (ram .entry)) (stored op (now (regs .entry)) b (now (ram .entry)) (highAt 4 operands) (lowAt 4 operands)) ⌝ }
     ensures few { λ q. ⌜ q .count ≤ 2 ⌝ }
 {
     let d = (operands / 16) as usize;
@@ -99,7 +98,7 @@ pub fn store(regs: &mut [u16; 16], v: Devices, ram: &mut [u8], op: StoreOp, oper
     let a = regs[d];
     let w = regs[s];
     if stores_byte(op) {
-        return store_byte(v, ram, a, halves::low(w));
+        return store_byte(b, ram, a, halves::low(w));
     }
-    store_word(v, ram, a, w)
+    store_word(b, ram, a, w)
 }

@@ -1,43 +1,32 @@
--- Reading an opcode by match: what is left to a last arm, and the names of conditions by the opcode's low four bits.
-use mathlib.Core.Path.{_≡_, refl, sym, ap, _∙_}
-use mathlib.Core.Bool.{true}
-use mathlib.Core.List.{List, [], _∷_, _++_}
-use Prim.Native.Nat.{ℕ, zero, suc, _+_, _*_, _%_, _^_, _<_, _≤_}
+-- What is left to the last arm of a match on a number.
+use mathlib.Core.Path.{_≡_, refl, sym}
+use mathlib.Core.Bool.{Bool, true, false}
+use mathlib.Core.List.{List}
+use Prim.Native.Nat.{ℕ, zero, suc, _+_, _≤_}
 use lib.Arith.{lt-of-le-ne}
-use lib.Dec.{leb}
+use lib.Dec.{ltb}
+use lib.ListN.{getD, length, List·getD-eq-default}
 use native.Mathlib.Omega.{arith}
-use borrow.Author.Tests.{leb-true}
-use Rattle.isa.specs.Names.{bytes}
-use Rattle.isa.specs.Opcode.{conditionName}
-use Rattle.isa.specs.Table.{pack}
-use Rattle.isa.proofs.Lists.{agree, ranged}
+use borrow.Author.Tests.{ltb-true, ltb-false}
+use Rattle.isa.specs.Opcode.{images}
+use Rattle.isa.proofs.Lists.{ranged}
 
--- what the last arm of a match on k is told, after an arm for each number below n
-abbrev Others : ℕ → ℕ → Type 0
-Others k zero = Unit {0}
-Others k (suc n) = Others k n × (k ≡ n → ⊥)
+-- what the last arm of a match on k is told, after an arm for each of n numbers from m on
+abbrev Others : ℕ → ℕ → ℕ → Type 0
+Others m k zero = Unit {0}
+Others m k (suc n) = Others m k n × (k ≡ m + n → ⊥)
 
-pub beyond : (k n : ℕ) → Others k n → n ≤ k
-beyond k zero r = omega arith
-beyond k (suc n) r = lt-of-le-ne (beyond k n (r .0)) (λ e. r .1 (sym e))
+beyond : (m k n : ℕ) → m ≤ k → Others m k n → m + n ≤ k
+beyond m k zero h r = omega arith
+beyond m k (suc n) h r =
+    let l = beyond m k n h (r .0) in
+    let g = lt-of-le-ne l (λ e. r .1 (sym e)) in
+    omega arith
 
--- a condition's name goes by the low four bits
-condition-at : (o : ℕ) → o < 256 → (k : ℕ) → o % 16 ≡ k → conditionName k ≡ conditionName o
-condition-at o h k e = ap conditionName (sym e) ∙ agree [] (λ k. conditionName (k % 16)) conditionName 256 refl o h
-
-pub name-at : (o : ℕ) → o < 256 → (k : ℕ) → o % 16 ≡ k → pack (conditionName k) ≡ pack (conditionName o)
-name-at o h k e = ap pack (condition-at o h k e)
-
-pub is-name-at : (o : ℕ) → o < 256 → (k : ℕ) → o % 16 ≡ k → pack (conditionName k ++ bytes "is") ≡ pack (conditionName o ++ bytes "is")
-is-name-at o h k e = ap (λ (w : List ℕ). pack (w ++ bytes "is")) (condition-at o h k e)
-
--- so that two more bytes have room
-pub name-small : (o : ℕ) → o < 256 → (r : ℕ) → r ≡ pack (conditionName o) → r < 2 ^ 40
-name-small o h r e = leb-true _ _ (rw e (ranged (λ k. leb (suc (pack (conditionName k))) (2 ^ 40)) true 0 256 refl o (omega arith) h))
-
-pub is-name-small : (o : ℕ) → o < 256 → (r : ℕ) → r ≡ pack (conditionName o ++ bytes "is") → r < 2 ^ 40
-is-name-small o h r e =
-    leb-true _ _ (rw e (ranged (λ k. leb (suc (pack (conditionName k ++ bytes "is"))) (2 ^ 40)) true 0 256 refl o (omega arith) h))
-
-pub headed : (a b : ℕ) (w : List ℕ) (r : ℕ) → r ≡ pack w → a + 256 * b + 65536 * r ≡ pack (a ∷ b ∷ w)
-headed a b w r e = omega arith
+-- a list whose n entries from m on, and no others, are told by the arms before
+pub outside : {A : Type 0} (d : A) (l : List A) (m k n : ℕ) → length l ≡ m + n → images (λ k. getD l k d) 0 m ≡ images (λ k. d) 0 m → Others m k n → d ≡ getD l k d
+outside d l m k n e first r = go (ltb k m) refl
+  where
+    go : (b : Bool) → ltb k m ≡ b → d ≡ getD l k d
+    go true q = let h = ltb-true k m q in sym (ranged (λ k. getD l k d) d 0 m first k (omega arith) (omega arith))
+    go false q = sym (List·getD-eq-default l d (rw e (beyond m k n (ltb-false k m q) r)))

@@ -1,42 +1,25 @@
--- The decode table and the tables of names: each tells, place by place, what the definitions say.
-use mathlib.Core.Path.{_≡_, refl, sym, ap, _∙_}
+-- What the table tells, read at one opcode.
+use mathlib.Core.Path.{_≡_, refl, ap}
 use mathlib.Core.Bool.{true}
-use mathlib.Core.List.{List, [], map}
+use mathlib.Core.List.{List}
 use Prim.Native.Nat.{ℕ, _≤_, _<_}
-use lib.ListN.{getD, List·getD-map}
-use Rattle.isa.specs.Names.{placeIn}
 use lib.Dec.{leb}
-use native.Mathlib.Nat.{zero-add}
 use native.Mathlib.Omega.{arith}
 use borrow.Author.Tests.{leb-true}
-use Rattle.isa.specs.Opcode.{meaning, images, mnemonics, reasonOf}
-use Rattle.isa.specs.Table.{pack, keyOf, nameOf, seekIn, HoldsNames, Told, told, toldOf, TellsAll}
-use Rattle.isa.proofs.Lists.{images-at, ranged, map-map, map-images}
-use Rattle.isa.proofs.Keyed.{Bytes, allTidy, seek-place}
+use Rattle.isa.specs.Opcode.{meaning, reasonOf}
+use Rattle.isa.specs.Code.{pack, keyAt, opIn, nameIn, TellsAll}
+use Rattle.isa.specs.declared.opcode.Op.{Op}
+use Rattle.isa.proofs.Lists.{agree, ranged}
 
--- the names of the table are the mnemonics
-tells-names : (table : List ℕ) → TellsAll table → HoldsNames table mnemonics
-unfolding TellsAll HoldsNames mnemonics
-tells-names table t =
-    sym (map-map (λ (x : Told). x .name) told table) ∙ ap (map (λ (x : Told). x .name)) t
-    ∙ map-images (λ (x : Told). x .name) toldOf 0 256 ∙ sym (map-images pack (λ opcode. meaning opcode .name) 0 256)
+tells : (t : List ℕ) → TellsAll t → (o : ℕ) → o < 256 → _≡_ {A = ℕ × Op} (nameIn t o, opIn t o) (keyAt o, meaning o .op)
+unfolding TellsAll
+tells t e = agree (keyAt 0, meaning 0 .op) (λ o. (nameIn t o, opIn t o)) (λ o. (keyAt o, meaning o .op)) 256 e
 
-pub mnemonics-tidy : allTidy mnemonics ≡ true
-unfolding mnemonics meaning
-mnemonics-tidy = refl
+pub tells-op : (t : List ℕ) → TellsAll t → (o : ℕ) → o < 256 → opIn t o ≡ meaning o .op
+tells-op t e o h = ap (λ (p : ℕ × Op). p .1) (tells t e o h)
 
--- the key at a place is the name there; past the end both are empty
-pub held : (entries : List ℕ) (names : List (List ℕ)) → HoldsNames entries names → (k : ℕ) → nameOf (getD entries k 0) ≡ pack (getD names k [])
-unfolding HoldsNames
-held entries names e k =
-    sym (List·getD-map nameOf entries k 0) ∙ ap (λ (l : List ℕ). getD l k 0) e ∙ List·getD-map pack names k []
-
-pub mnemonic-at : (k : ℕ) → k < 256 → getD mnemonics k [] ≡ meaning k .name
-unfolding mnemonics
-mnemonic-at k h = images-at [] (λ opcode. meaning opcode .name) 0 256 k h ∙ ap (λ (n : ℕ). meaning n .name) (zero-add k)
-
-pub told-name : (table : List ℕ) → TellsAll table → (k : ℕ) → k < 256 → nameOf (getD table k 0) ≡ pack (meaning k .name)
-told-name table t k h = held table mnemonics (tells-names table t) k ∙ ap pack (mnemonic-at k h)
+pub tells-name : (t : List ℕ) → TellsAll t → (o : ℕ) → o < 256 → nameIn t o ≡ pack (meaning o .name)
+tells-name t e o h = ap (λ (p : ℕ × Op). p .0) (tells t e o h)
 
 -- a reason is 1 or 2, and 0 stands for a legal opcode
 pub reason-small : (opcode : ℕ) → opcode < 256 → reasonOf (meaning opcode .op) ≤ 2

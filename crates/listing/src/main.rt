@@ -29,6 +29,7 @@ fn print(out: &[u8], n: usize) {
     }
 }
 
+// `NoRoom` does not come: the output has room for the longest listing.
 fn main() {
     let mut input = room_in();
     let n = io::read_full(STDIN_FILENO, &mut input);

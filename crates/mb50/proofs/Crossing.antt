@@ -6,30 +6,28 @@ use mathlib.Core.List.{List}
 use lib.Dec.{eqb}
 use lib.ListN.{set}
 use Rattle.word.specs.Word.{lowAt}
-use Rattle.bus.specs.State.{cpu}
 use Rattle.bus.specs.declared.state.Cpu.{Cpu}
-use Rattle.history.specs.Trace.{Undo, Call, Answer as AnswerOf, answers}
-use Rattle.history.specs.Ring.{Ring}
-use Rattle.input.specs.Record.{undoFrom, undoAs, recordWith}
-use Rattle.input.specs.Inputs.{Input}
-use Rattle.input.specs.declared.record.Before.{Before}
-use Rattle.advance.specs.Standing.{W, causeIs}
-use Rattle.advance.specs.declared.Run.{Run}
-use Rattle.advance.specs.declared.Stop.{Stop}
-use Rattle.advance.specs.declared.Stop.the-variants.{Halted, Budget}
-use Rattle.machine.specs.Calls.{Keeps, answerOf, worldOf, numberOf, saidBy, replied}
-use Rattle.machine.specs.declared.state.Machine.{Machine}
-use Rattle.machine.specs.declared.state.Refusal.{Refusal}
-use Rattle.machine.specs.declared.state.Refusal.the-variants as Refusal
-use Rattle.machine.specs.declared.state.Answer.{Answer}
-use Rattle.machine.specs.declared.state.Answer.the-variants.{Accepted, Stepped, Ran, Refused}
-use Rattle.machine.specs.declared.state.Reply.{Reply}
+use Rattle.history.specs.Trace.{Undo, Call, answers}
+use Rattle.records.specs.Record.{undoFrom, recordWith}
+use Rattle.records.specs.Code.{undoAs}
+use Rattle.records.specs.declared.Before.{Before}
+use Rattle.calls.specs.Inputs.{Input}
+use Rattle.calls.specs.declared.state.Run.{Run}
+use Rattle.calls.specs.declared.state.Stop.{Stop}
+use Rattle.calls.specs.declared.state.Stop.the-variants.{Halted, Budget}
+use Rattle.calls.specs.Calls.{W, causeIs, Keeps, answerOf, worldOf, numberOf, saidBy, replied}
+use Rattle.calls.specs.declared.state.Machine.{Machine}
+use Rattle.calls.specs.declared.state.Refusal.{Refusal}
+use Rattle.calls.specs.declared.state.Refusal.the-variants as Refusal
+use Rattle.calls.specs.declared.state.Answer.{Answer}
+use Rattle.calls.specs.declared.state.Answer.the-variants.{Accepted, Stepped, Ran, Refused}
+use Rattle.calls.specs.declared.state.Reply.{Reply}
 use Rattle.mb50.specs.Boundary.{taken, given, packed, causeNumber, resultOf, Crossed, leaves, crossed, Crosses}
 
 -- the machine in the words of a record
-pub takes : (w : List ℕ) (b : Before) → undoFrom w ≡ undoAs b → record { cpu = b .cpu; next = b .count; held = b .at } ≡ taken w
+pub takes : (w : List ℕ) (b : Before) → undoFrom w ≡ undoAs b → record { cpu = b .cpu; next = b .count; held = b .first } ≡ taken w
 unfolding undoFrom
-takes w b e = sym (ap (λ (u : Undo Cpu). record { cpu = u .cpu; next = u .count; held = u .at }) e)
+takes w b e = sym (ap (λ (u : Undo Cpu). record { cpu = u .cpu; next = u .count; held = u .first }) e)
 
 -- next slot in the place of the bytes written
 pub writes : (c : Cpu) (next held : ℕ) (r : List ℕ) → r ≡ recordWith c 0 (lowAt 16 held) 0 → set r 25 (lowAt 16 next) ≡ given c next held
@@ -78,7 +76,10 @@ module _ (w : List ℕ) (r : Reply) (ram ws : List ℕ) (x : ℕ) (b : Bool) (e 
 
   leaves-all : crossed w (replied r ram ws) ≡ leavesAt (worldOf (r .machine) ram ws)
   unfolding crossed
-  leaves-all = rw (e, t, twice (eqb (replied r ram ws .number) 0)) (ap (λ (u : W). leaves (resultOf (replied r ram ws)) (cond (eqb (replied r ram ws .number) 0) (given (u .box .cpu) (u .journal .next) (u .journal .held)) w) (u .box .ram) (u .journal .words)) (same-world (r .answer) (worldOf (r .machine) ram ws)))
+  leaves-all = rw (e, t, twice (eqb (replied r ram ws .number) 0))
+      (ap (λ (u : W). leaves (resultOf (replied r ram ws))
+      (cond (eqb (replied r ram ws .number) 0) (given (u .box .cpu) (u .journal .next) (u .journal .held)) w) (u .box .ram) (u .journal .words)) (same-world
+      (r .answer) (worldOf (r .machine) ram ws)))
 
   pub kept : b ≡ true → crossed w (replied r ram ws) ≡ leaves x w ram ws
   kept h = leaves-all ∙ rw h

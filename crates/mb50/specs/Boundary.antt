@@ -7,12 +7,12 @@ use lib.Dec.{eqb}
 use Rattle.word.specs.Word.{lowAt}
 use Rattle.bus.specs.State.{word}
 use Rattle.bus.specs.declared.state.Cpu.{Cpu}
-use Rattle.history.specs.Trace.{Cause, no-run, budget, stopped, Answer as AnswerOf, Call}
+use Rattle.history.specs.Trace.{Cause, no-run, budget, stopped, Answer, Call}
 use Rattle.history.specs.Ring.{Ring}
-use Rattle.input.specs.Record.{undoFrom, recordWith}
-use Rattle.input.specs.Inputs.{Input}
-use Rattle.machine.specs.Calls.{answerOf, worldOf}
-use Rattle.machine.specs.declared.state.Machine.{Machine}
+use Rattle.records.specs.Record.{undoFrom, recordWith}
+use Rattle.calls.specs.Inputs.{Input}
+use Rattle.calls.specs.Calls.{answerOf, worldOf}
+use Rattle.calls.specs.declared.state.Machine.{Machine}
 use Rattle.text.specs.Answer.{Answer as TextAnswer}
 
 -- "0–15 registers; 16–21 csr0–csr5; 22 clock; 23 RXD + 256·TXD; 24 R + 2·T + 4·halted (a number over 7 counts modulo 8)": as a journal record has
@@ -40,7 +40,7 @@ runSteps no-run n = 0
 runSteps budget n = n
 runSteps stopped n = n
 
-abbrev pub resultOf : AnswerOf Cpu Ring → ℕ
+abbrev pub resultOf : Answer Cpu Ring → ℕ
 resultOf a = packed (a .number) (runSteps (a .cause) (a .steps)) (a .bus) (causeNumber (a .cause))
 
 -- what a call leaves: its result, the state's words, RAM and journal
@@ -54,7 +54,7 @@ abbrev pub leaves : ℕ → List ℕ → List ℕ → List ℕ → Crossed
 leaves r w ram ws = record { result = r; words = w; ram = ram; journal = ws }
 
 -- "On acceptance the words are rewritten; on a refusal all 32 stay as given."
-unfoldable pub crossed : List ℕ → AnswerOf Cpu Ring → Crossed
+unfoldable pub crossed : List ℕ → Answer Cpu Ring → Crossed
 crossed w a =
     leaves (resultOf a)
     (cond (eqb (a .number) 0) (given (a .world .box .cpu) (a .world .journal .next) (a .world .journal .held)) w)

@@ -1,15 +1,14 @@
 // The answer as one number of 64 bits.
-use advance::Run;
-use advance::Stop;
-use machine::state;
-use machine::state::Answer;
+use calls::state;
+use calls::state::Answer;
+use calls::state::Run;
+use calls::state::Stop;
 use text::assemble::Assembled;
 use text::list::Listed;
 ghost use mathlib.Core.Path.{_≡_};
 ghost use mathlib.Core.Bool.{not};
 ghost use lib.Dec.{eqb};
-ghost use Rattle.advance.specs.Standing.{W, causeIs};
-ghost use Rattle.machine.specs.Calls.{saidBy};
+ghost use Rattle.calls.specs.Calls.{W, causeIs, saidBy};
 ghost use Rattle.text.specs.Answer.{listedAs, assembledAs};
 ghost use Rattle.mb50.specs.Boundary.{packed, causeNumber, resultOf, listed as listedBy, assembled as assembledBy};
 

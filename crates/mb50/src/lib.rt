@@ -2,33 +2,37 @@
 mod fields;
 mod words;
 
-use machine::inputs;
-use motion::back;
-use motion::running;
-ghost use Rattle.history.specs.Trace.{Call, give, back as goesBack};
-ghost use Rattle.input.specs.Inputs.{Input};
+use machine::Call;
+ghost use Rattle.history.specs.Trace.{Call as CallOf, give, back as goesBack};
+ghost use Rattle.calls.specs.Inputs.{Input};
+ghost use Rattle.machine.specs.Asked.{asked};
 ghost use Rattle.mb50.specs.Boundary.{Crosses, listed, assembled};
 ghost use mathlib.Core.Path.{_≡_};
 ghost use lib.ListN.{length};
 ghost use Rattle.text.specs.Listing.{listSays, listLeaves};
 ghost use Rattle.text.specs.Assembling.{assembleSays};
 
+// Words to machine, the call, machine to words.
+fn cross(call: Call, state: &mut [u16; 32], ram: &mut [u8], journal: &mut [u16]) -> u64
+    ensures { λ r. ⌜ Crosses (asked call) (now (state .entry)) (now (ram .entry)) (now (journal .entry)) r (now (state .exit)) (now (ram .exit)) (now (journal .exit)) ⌝ }
+{
+    let m = words::taken(*state);
+    let r = machine::answer(call, m, ram, journal);
+    words::answer(state, r)
+}
+
 #[no_mangle]
 pub extern "C" fn mb50_step(state: &mut [u16; 32], ram: &mut [u8], journal: &mut [u16]) -> u64
     ensures { λ r. ⌜ Crosses (give Input.step) (now (state .entry)) (now (ram .entry)) (now (journal .entry)) r (now (state .exit)) (now (ram .exit)) (now (journal .exit)) ⌝ }
 {
-    let m = words::taken(*state);
-    let r = running::step(m, ram, journal);
-    words::answer(state, r)
+    cross(Call::Step, state, ram, journal)
 }
 
 #[no_mangle]
 pub extern "C" fn mb50_tick(state: &mut [u16; 32], ram: &mut [u8], journal: &mut [u16]) -> u64
     ensures { λ r. ⌜ Crosses (give Input.tick) (now (state .entry)) (now (ram .entry)) (now (journal .entry)) r (now (state .exit)) (now (ram .exit)) (now (journal .exit)) ⌝ }
 {
-    let m = words::taken(*state);
-    let r = inputs::tick(m, ram, journal);
-    words::answer(state, r)
+    cross(Call::Tick, state, ram, journal)
 }
 
 #[no_mangle]
@@ -40,18 +44,14 @@ pub extern "C" fn mb50_receive(
 ) -> u64
     ensures { λ r. ⌜ Crosses (give (Input.receive byte)) (now (state .entry)) (now (ram .entry)) (now (journal .entry)) r (now (state .exit)) (now (ram .exit)) (now (journal .exit)) ⌝ }
 {
-    let m = words::taken(*state);
-    let r = inputs::receive(m, ram, journal, byte);
-    words::answer(state, r)
+    cross(Call::Receive(byte), state, ram, journal)
 }
 
 #[no_mangle]
 pub extern "C" fn mb50_sent(state: &mut [u16; 32], ram: &mut [u8], journal: &mut [u16]) -> u64
     ensures { λ r. ⌜ Crosses (give Input.sent) (now (state .entry)) (now (ram .entry)) (now (journal .entry)) r (now (state .exit)) (now (ram .exit)) (now (journal .exit)) ⌝ }
 {
-    let m = words::taken(*state);
-    let r = inputs::sent(m, ram, journal);
-    words::answer(state, r)
+    cross(Call::Sent, state, ram, journal)
 }
 
 #[no_mangle]
@@ -64,9 +64,7 @@ pub extern "C" fn mb50_set_register(
 ) -> u64
     ensures { λ r. ⌜ Crosses (give (Input.setRegister number content)) (now (state .entry)) (now (ram .entry)) (now (journal .entry)) r (now (state .exit)) (now (ram .exit)) (now (journal .exit)) ⌝ }
 {
-    let m = words::taken(*state);
-    let r = inputs::set_register(m, ram, journal, number, content);
-    words::answer(state, r)
+    cross(Call::SetRegister(number, content), state, ram, journal)
 }
 
 #[no_mangle]
@@ -79,18 +77,14 @@ pub extern "C" fn mb50_poke(
 ) -> u64
     ensures { λ r. ⌜ Crosses (give (Input.poke address byte)) (now (state .entry)) (now (ram .entry)) (now (journal .entry)) r (now (state .exit)) (now (ram .exit)) (now (journal .exit)) ⌝ }
 {
-    let m = words::taken(*state);
-    let r = inputs::poke(m, ram, journal, address, byte);
-    words::answer(state, r)
+    cross(Call::Poke(address, byte), state, ram, journal)
 }
 
 #[no_mangle]
 pub extern "C" fn mb50_reset(state: &mut [u16; 32], ram: &mut [u8], journal: &mut [u16]) -> u64
     ensures { λ r. ⌜ Crosses (give Input.resets) (now (state .entry)) (now (ram .entry)) (now (journal .entry)) r (now (state .exit)) (now (ram .exit)) (now (journal .exit)) ⌝ }
 {
-    let m = words::taken(*state);
-    let r = inputs::reset(m, ram, journal);
-    words::answer(state, r)
+    cross(Call::Reset, state, ram, journal)
 }
 
 #[no_mangle]
@@ -100,20 +94,16 @@ pub extern "C" fn mb50_run(
     journal: &mut [u16],
     budget: u16,
 ) -> u64
-    ensures { λ r. ⌜ Crosses (Call.run budget) (now (state .entry)) (now (ram .entry)) (now (journal .entry)) r (now (state .exit)) (now (ram .exit)) (now (journal .exit)) ⌝ }
+    ensures { λ r. ⌜ Crosses (CallOf.run budget) (now (state .entry)) (now (ram .entry)) (now (journal .entry)) r (now (state .exit)) (now (ram .exit)) (now (journal .exit)) ⌝ }
 {
-    let m = words::taken(*state);
-    let r = running::run(m, ram, journal, budget);
-    words::answer(state, r)
+    cross(Call::Run(budget), state, ram, journal)
 }
 
 #[no_mangle]
 pub extern "C" fn mb50_step_back(state: &mut [u16; 32], ram: &mut [u8], journal: &mut [u16]) -> u64
     ensures { λ r. ⌜ Crosses goesBack (now (state .entry)) (now (ram .entry)) (now (journal .entry)) r (now (state .exit)) (now (ram .exit)) (now (journal .exit)) ⌝ }
 {
-    let m = words::taken(*state);
-    let r = back::step_back(m, ram, journal);
-    words::answer(state, r)
+    cross(Call::Back, state, ram, journal)
 }
 
 #[no_mangle]

@@ -1,12 +1,11 @@
 // The machine as 32 words, and back.
 use crate::fields;
-use input::record;
-use machine::state::Machine;
-use machine::state::Reply;
+use calls::state::Machine;
+use calls::state::Reply;
 ghost use mathlib.Core.Path.{_≡_};
 ghost use mathlib.Core.List.{List};
 ghost use Prim.Native.Nat.{ℕ};
-ghost use Rattle.machine.specs.Calls.{replied};
+ghost use Rattle.calls.specs.Calls.{replied};
 ghost use Rattle.mb50.specs.Boundary.{taken as takenFrom, given as givenAs, crossed, leaves};
 
 // The machine that the words say. They stand as in a journal record, with next slot and records held in the places of the bytes written and
@@ -14,12 +13,12 @@ ghost use Rattle.mb50.specs.Boundary.{taken as takenFrom, given as given
 pub fn taken(words: [u16; 32]) -> Machine
     ensures { λ r. ⌜ r ≡ takenFrom words ⌝ }
 {
-    let b = record::decode(words);
+    let b = records::decode(words);
     let c = b.cpu;
     Machine {
         cpu: c,
         next: b.count as usize,
-        held: b.at as usize,
+        held: b.first as usize,
     }
 }
 
@@ -29,8 +28,8 @@ fn given(m: Machine) -> [u16; 32]
     let c = m.cpu;
     let g = c.regs;
     let k = c.csrs;
-    let v = c.devices;
-    let mut words = record::encode(g, k, v, c.halted, 0, (m.held % 65536) as u16, 0);
+    let b = c.board;
+    let mut words = records::encode(g, k, b, 0, (m.held % 65536) as u16, 0);
     words[25] = (m.next % 65536) as u16;
     words
 }

@@ -4,6 +4,7 @@ mod states;
 
 use bus::state::Cpu;
 use cpu::step;
+use isa::opcode;
 use isa::register::PC;
 use libc::STDIN_FILENO;
 ghost use mathlib.Core.Path.{_≡_};
@@ -17,37 +18,39 @@ fn room() -> [u8; 65536]
 }
 
 // One instruction word from a state; RAM runs on from word to word.
-fn one_word(h: u64, c: Cpu, ram: &mut [u8], word: u16) -> u64 {
+fn one_word(h: u64, table: &[u8], c: Cpu, ram: &mut [u8], word: u16) -> u64 {
     let mut regs = c.regs;
     let mut csrs = c.csrs;
-    let v = states::placed(c.devices, ram, regs[PC], word);
-    let q = step::step(&mut regs, &mut csrs, ram, v, c.halted);
+    let mut b = c.board;
+    let v = b.devices;
+    b.devices = states::placed(v, ram, regs[PC], word);
+    let q = step::step(table, &mut regs, &mut csrs, ram, b);
     digest::stepped(h, regs, csrs, q, ram)
 }
 
-fn every_word(c: Cpu, ram: &mut [u8]) -> u64 {
+fn every_word(table: &[u8], c: Cpu, ram: &mut [u8]) -> u64 {
     let mut h: u64 = 1;
     let mut left: u32 = 65536;
     while 0 < left {
-        h = one_word(h, c, ram, ((65536 - left) % 65536) as u16);
+        h = one_word(h, table, c, ram, ((65536 - left) % 65536) as u16);
         left = left - 1;
     }
     digest::absorb_bytes(h, ram)
 }
 
-fn one_state(input: &[u8], at: usize, buffer: &mut [u8]) -> u64 {
+fn one_state(table: &[u8], input: &[u8], at: usize, buffer: &mut [u8]) -> u64 {
     let size = states::ram_length(input, at, buffer.len());
     let from = states::fill_byte(input, at);
     states::fill(&mut buffer[0..size], from);
     let c = states::cpu_at(input, at);
-    every_word(c, &mut buffer[0..size])
+    every_word(table, c, &mut buffer[0..size])
 }
 
 // A line for each state.
-fn run(input: &[u8], buffer: &mut [u8]) {
+fn run(table: &[u8], input: &[u8], buffer: &mut [u8]) {
     let mut at = 0;
     while at < input.len() {
-        let h = one_state(input, at, buffer);
+        let h = one_state(table, input, at, buffer);
         report::decimal((at / 52) as u64);
         report::space();
         report::hex(h, 8);
@@ -62,6 +65,7 @@ fn run(input: &[u8], buffer: &mut [u8]) {
 fn main() {
     let mut states = room();
     let mut buffer = room();
+    let table = opcode::table();
     let n = io::read_full(STDIN_FILENO, &mut states);
-    run(&states[..n], &mut buffer);
+    run(&table, &states[..n], &mut buffer);
 }

@@ -1,22 +1,20 @@
--- A key's bytes are the name that it was made of, and texts are written one key after the other.
-use mathlib.Core.Path.{_≡_, refl, sym, ap, _∙_}
-use mathlib.Core.Bool.{Bool, true, false, cond, _&&_, _||_}
+-- A key's bytes are the name that it was made of; the loops over a key, and the three keys of a word's text.
+use mathlib.Core.Path.{_≡_, refl, sym, _∙_}
+use mathlib.Core.Bool.{Bool, true, false, cond, _&&_}
 use mathlib.Core.List.{List, [], _∷_, _++_, append-assoc}
 use mathlib.Core.Logic.{⊎-elim}
 use Prim.Native.Nat.{ℕ, zero, suc, _+_, _*_, _-_, _/_, _%_, _^_, _<_, _≤_}
-use native.Mathlib.Nat.{add-zero}
 use native.Mathlib.Numerals.{add-one}
 use native.Mathlib.Omega.{arith}
 use borrow.Author.Tests.{eq-eqb, ne-eqb, leb-true, le-leb}
 use lib.Dec.{eqb, leb}
-use lib.ListN.{length, set, drop, length-append}
-use lib.Seq.{sets, sets-eq}
-use Rattle.isa.specs.Names.{registerName, csrName}
+use lib.ListN.{length, set}
+use lib.Seq.{sets}
 use Rattle.isa.specs.Opcode.{meaning, givesReason2}
-use Rattle.isa.specs.Table.{pack}
+use Rattle.isa.specs.Code.{pack}
 use Rattle.isa.proofs.Spelling.{plain, allPlain, mnemonic-short, mnemonic-plain, mnemonic-some, register-short, register-plain, csr-short, csr-plain}
 use Rattle.text.specs.Listing.{firstIsCsr, secondIsCsr, operandName, textOf}
-use Rattle.text.specs.Places.{digits, keyText}
+use Rattle.text.specs.Code.{digits, keyText}
 use Rattle.isa.proofs.Keyed.{left, right}
 use Rattle.text.proofs.Bools.{either}
 
@@ -48,24 +46,6 @@ pub key-short : (x : ℕ) → length (keyText x) ≤ 8
 unfolding keyText
 key-short x = digits-length 8 x
 
--- ---- a run of stores after a run of stores
-
-pub sets-append : (l : List ℕ) (i : ℕ) (xs ys : List ℕ) → sets (sets l i xs) (i + length xs) ys ≡ sets l i (xs ++ ys)
-sets-append l i [] ys = rw add-zero
-sets-append l i (x ∷ xs) ys =
-    let e : i + suc (length xs) ≡ suc i + length xs = omega arith in
-    rw e (sets-append (set l i x) (suc i) xs ys)
-
-pub three-length : (a b c : List ℕ) → length (a ++ b ++ c) ≡ length a + length b + length c
-three-length a b c = simp length-append (omega arith)
-
-pub three : (out a b c : List ℕ) (i j : ℕ) → i ≡ 0 + length a → j ≡ i + length b → length a + length b + length c ≤ length out
-    → sets (sets (sets out 0 a) i b) j c ≡ (a ++ b ++ c) ++ drop (length (a ++ b ++ c)) out
-three out a b c i j ei ej h =
-    let e : 0 + length a + length b ≡ 0 + length (a ++ b) = rw (length-append a b) (omega arith) in
-    let z : 0 + length (a ++ b ++ c) ≡ length (a ++ b ++ c) = omega arith in
-    rw (ej, ei, sets-append out 0 a b, e, sets-append out 0 (a ++ b) c, sets-eq (a ++ b ++ c) out 0 (omega (arith, three-length a b c)), z)
-
 -- ---- a key of bytes that are not 0 has those bytes
 
 abbrev byteful : List ℕ → Bool
@@ -96,9 +76,13 @@ pack-small (suc k) (b ∷ bs) h e =
 plain-byte : (b : ℕ) → plain b ≡ true → (leb 1 b && leb b 255) ≡ true
 unfolding plain
 plain-byte b e =
-    ⊎-elim (λ h. let l = leb-true 97 b (left _ _ h) in let m = leb-true b 122 (right (leb 97 b) _ h) in rw (le-leb 1 b (omega arith), le-leb b 255 (omega arith)))
-    (λ h. let l = leb-true 48 b (left _ _ h) in let m = leb-true b 57 (right (leb 48 b) _ h) in rw (le-leb 1 b (omega arith), le-leb b 255 (omega arith)))
-    (either (leb 97 b && leb b 122) (leb 48 b && leb b 57) e)
+    ⊎-elim (among 97 122 (omega arith) (omega arith)) (among 48 57 (omega arith) (omega arith)) (either (leb 97 b && leb b 122) (leb 48 b && leb b 57) e)
+  where
+    among : (x y : ℕ) → 1 ≤ x → y ≤ 255 → (leb x b && leb b y) ≡ true → (leb 1 b && leb b 255) ≡ true
+    among x y hx hy h =
+        let l = leb-true x b (left (leb x b) (leb b y) h) in
+        let m = leb-true b y (right (leb x b) (leb b y) h) in
+        rw (le-leb 1 b (omega arith), le-leb b 255 (omega arith))
 
 plain-bytes : (t : List ℕ) → allPlain t ≡ true → byteful t ≡ true
 plain-bytes [] e = refl
@@ -115,7 +99,8 @@ operand-plain true n h = csr-plain n h
 operand-plain false n h = register-plain n h
 
 pub operand-small : (isCsr : Bool) (n : ℕ) → n < 16 → pack (operandName isCsr n) < 1099511627776
-operand-small isCsr n h = pack-small 5 (operandName isCsr n) (operand-short isCsr n h) (plain-bytes (operandName isCsr n) (operand-plain isCsr n h))
+operand-small isCsr n h =
+    pack-small 5 (operandName isCsr n) (operand-short isCsr n h) (plain-bytes (operandName isCsr n) (operand-plain isCsr n h))
 
 pub mnemonic-key : (opcode : ℕ) → opcode < 256 → keyText (pack (meaning opcode .name)) ≡ meaning opcode .name
 unfolding keyText

@@ -7,7 +7,7 @@ use Prim.Native.Nat.{ℕ}
 use native.Mathlib.Omega.{arith}
 use borrow.Author.Tests.{eqb-true}
 use lib.Dec.{eqb}
-use Rattle.text.specs.Line.{all, blank, wordy, run, rest, empty, Line, words, noLine, atEnd, atSecond, atComma, atFirst, atGap, atMnemonic, lineOf}
+use Rattle.text.specs.Line.{all, blank, wordy, run, rest, empty, Line, words, noLine, atEnd, atSecond, atComma, atFirst, atGap, lineOf}
 use Rattle.text.specs.Grammar.{Word, IsLine}
 use Rattle.isa.proofs.Keyed.{left, right}
 use Rattle.text.proofs.Bools.{clash, either}

@@ -1,26 +1,25 @@
 -- Listing a word and assembling its text returns the word; its text is at most 16 bytes.
-use mathlib.Core.Path.{_≡_, refl, sym, ap, _∙_}
-use mathlib.Core.Bool.{Bool, true, false, cond, _&&_, _||_, or-true}
+use mathlib.Core.Path.{_≡_, refl, ap, _∙_}
+use mathlib.Core.Bool.{Bool, true, false, cond, _&&_, _||_}
 use mathlib.Core.List.{List, [], _∷_, _++_, append-nil}
-use mathlib.Core.Logic.{⊎-elim}
-use Prim.Native.Nat.{ℕ, _+_, _*_, _/_, _%_, _<_, _≤_}
+use Prim.Native.Nat.{ℕ, _+_, _/_, _%_, _<_, _≤_}
 use native.Mathlib.Omega.{arith}
-use borrow.Author.Tests.{eqb-true, eqb-false, le-leb, le-ltb, ltb-true}
+use borrow.Author.Tests.{eqb-false, le-leb, le-ltb, ltb-true}
 use lib.Dec.{eqb, leb, ltb}
 use lib.ListN.{length, take, length-append}
 use lib.Seq.{take-append-seam}
-use Rattle.isa.specs.Names.{registerName, csrName, regNamed, csrNamed}
-use Rattle.isa.specs.Opcode.{meaning, givesReason2, opcodeNamed}
-use Rattle.isa.specs.declared.opcode.FoundOpcode.the-variants as FoundOpcode
-use Rattle.isa.proofs.Spelling.{plain, allPlain, mnemonic-plain, mnemonic-some, mnemonic-room, mnemonic-named, register-plain, register-some, register-short, register-named, csr-plain, csr-some, csr-short, csr-named}
+use Rattle.isa.specs.Names.{registerName, csrName}
+use Rattle.isa.specs.Opcode.{meaning, givesReason2}
+use Rattle.isa.proofs.Spelling.{plain, allPlain, mnemonic-plain, mnemonic-some, mnemonic-room, mnemonic-named}
+use Rattle.isa.proofs.Spelling.{register-plain, register-some, register-short, register-named, csr-plain, csr-some, csr-short, csr-named}
 use Rattle.text.specs.Answer.{Answer, accepted, refused}
-use Rattle.text.specs.Line.{all, blank, wordy, empty, lineOf, words}
+use Rattle.text.specs.Line.{all, blank, wordy, empty}
 use Rattle.text.specs.Grammar.{Word, IsLine}
 use Rattle.text.specs.Listing.{firstIsCsr, secondIsCsr, operandName, textOf, listSays, listLeaves}
-use Rattle.text.specs.Assembling.{operandOf, regNumber, csrNumber, assembleSays}
+use Rattle.text.specs.Assembling.{operandOf, assembleSays}
 use Rattle.text.specs.declared.assemble.Operand.the-variants.{Number}
 use Rattle.isa.proofs.Keyed.{left, right}
-use Rattle.text.proofs.Bools.{clash, either}
+use Rattle.text.proofs.Bools.{clash}
 use Rattle.text.proofs.Reading.{complete}
 
 -- ---- a canonical name is a word of a line
@@ -140,7 +139,8 @@ pub seen : (w room n : ℕ) → accepted n ≡ listSays w room → Seen w n
 unfolding listSays
 seen w room n = go (givesReason2 (w % 256)) refl (ltb room (length (textOf w)))
   where
-    go : (r : Bool) → givesReason2 (w % 256) ≡ r → (t : Bool) → accepted n ≡ cond r (refused 10) (cond t (refused 11) (accepted (length (textOf w)))) → Seen w n
+    go : (r : Bool) → givesReason2 (w % 256) ≡ r → (t : Bool)
+        → accepted n ≡ cond r (refused 10) (cond t (refused 11) (accepted (length (textOf w)))) → Seen w n
     go true g t e = apart (accepted n) (refused 10) e (λ z. omega arith)
     go false g true e = apart (accepted n) (refused 11) e (λ z. omega arith)
     go false g false e = record { legal = g; whole = ap (λ (x : Answer). x .value) e }
@@ -154,13 +154,14 @@ unlisted w room = go (givesReason2 (w % 256)) (ltb room (length (textOf w)))
     go false true e = apart (refused 10) (refused 11) e (λ z. omega arith)
     go false false e = apart (refused 10) (accepted (length (textOf w))) e (λ z. omega arith)
 
-pub roomy : {A : Type 0} (w room : ℕ) → w < 65536 → 16 ≤ room → refused 11 ≡ listSays w room → A
+pub unroomy : (w room : ℕ) → refused 11 ≡ listSays w room → (givesReason2 (w % 256) ≡ false) × (room < length (textOf w))
 unfolding listSays
-roomy {A = A} w room h k = go (givesReason2 (w % 256)) (ltb room (length (textOf w))) refl
+unroomy w room = go (givesReason2 (w % 256)) (ltb room (length (textOf w))) refl
   where
-    go : (r t : Bool) → ltb room (length (textOf w)) ≡ t → refused 11 ≡ cond r (refused 10) (cond t (refused 11) (accepted (length (textOf w)))) → A
+    go : (r t : Bool) → ltb room (length (textOf w)) ≡ t → refused 11 ≡ cond r (refused 10) (cond t (refused 11) (accepted (length (textOf w))))
+        → (r ≡ false) × (room < length (textOf w))
     go true t l e = apart (refused 11) (refused 10) e (λ z. omega arith)
-    go false true l e = let m = ltb-true room (length (textOf w)) l in let s = sixteen w h in absurd (omega arith)
+    go false true l e = (refl, ltb-true room (length (textOf w)) l)
     go false false l e = apart (refused 11) (accepted (length (textOf w))) e (λ z. omega arith)
 
 -- the text that listing left, assembled

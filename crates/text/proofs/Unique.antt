@@ -1,13 +1,15 @@
 -- No second answer satisfies a contract: the answer is read back from the paper's number and value.
 use mathlib.Core.Path.{_≡_, refl, sym, ap, _∙_}
 use mathlib.Core.Bool.{cond}
-use Prim.Native.Nat.{ℕ}
 use lib.Dec.{eqb}
 use Rattle.text.specs.Answer.{Answer, listedAs, assembledAs}
 use Rattle.text.specs.declared.list.Listed.{Listed}
 use Rattle.text.specs.declared.list.Listed.the-variants.{Text, Reason2, NoRoom}
 use Rattle.text.specs.declared.assemble.Assembled.{Assembled}
 use Rattle.text.specs.declared.assemble.Assembled.the-variants.{Word, BadLine, BadMnemonic, BadOperand}
+
+pub read-back : {A : Type 0} (told : A → Answer) (of : Answer → A) → ((r : A) → of (told r) ≡ r) → (r s : A) → told r ≡ told s → r ≡ s
+read-back told of back r s e = sym (back r) ∙ ap of e ∙ back s
 
 abbrev listedOf : Answer → Listed
 listedOf a = cond (eqb (a .no) 10) Reason2 (cond (eqb (a .no) 11) NoRoom (Text (a .value)))
@@ -18,7 +20,7 @@ listed-back Reason2 = refl
 listed-back NoRoom = refl
 
 pub listed-one : (r s : Listed) → listedAs r ≡ listedAs s → r ≡ s
-listed-one r s e = sym (listed-back r) ∙ ap listedOf e ∙ listed-back s
+listed-one = read-back listedAs listedOf listed-back
 
 abbrev assembledOf : Answer → Assembled
 assembledOf a = cond (eqb (a .no) 12) BadLine (cond (eqb (a .no) 13) BadMnemonic (cond (eqb (a .no) 14) BadOperand (Word (a .value))))
@@ -30,4 +32,4 @@ assembled-back BadMnemonic = refl
 assembled-back BadOperand = refl
 
 pub assembled-one : (r s : Assembled) → assembledAs r ≡ assembledAs s → r ≡ s
-assembled-one r s e = sym (assembled-back r) ∙ ap assembledOf e ∙ assembled-back s
+assembled-one = read-back assembledAs assembledOf assembled-back

@@ -2,7 +2,6 @@
 use Prim.Native.Nat.{ℕ, _+_, _*_, _%_}
 use mathlib.Core.Bool.{Bool, cond}
 use mathlib.Core.List.{List}
-use lib.Dec.{eqb}
 use Rattle.isa.specs.Names.{regNamed, csrNamed}
 use Rattle.isa.specs.Opcode.{opcodeNamed, givesReason2}
 use Rattle.isa.specs.declared.register.FoundReg.{FoundReg}
@@ -17,7 +16,7 @@ use Rattle.text.specs.Line.{Line, words, noLine, lineOf}
 use Rattle.text.specs.declared.assemble.Operand.{Operand}
 use Rattle.text.specs.declared.assemble.Operand.the-variants.{Number, NoOperand}
 use Rattle.text.specs.declared.trip.Again.{Again}
-use Rattle.text.specs.declared.trip.Again.the-variants.{Same, Unlisted, Other}
+use Rattle.text.specs.declared.trip.Again.the-variants.{Same, Unlisted}
 
 -- an operand's number
 abbrev pub regNumber : FoundReg → Operand
@@ -57,7 +56,3 @@ assembleSays s = withLine (lineOf s)
 -- What listing a word and assembling the listing gives, given room; the theorem `round-trip` (proofs/Returning.antt) says it of the two calls.
 abbrev pub againOf : ℕ → Again
 againOf w = cond (givesReason2 (w % 256)) Unlisted (Same w)
-
--- what assembling a text says of it
-abbrev pub againFrom : Answer → Again
-againFrom a = cond (eqb (a .no) 0) (Same (a .value)) Other

@@ -3,4 +3,4 @@ pub mod Listing
 pub mod Line
 pub mod Grammar
 pub mod Assembling
-pub mod Places
+pub mod Code

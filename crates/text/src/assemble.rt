@@ -9,11 +9,10 @@ use isa::register::FoundReg;
 use isa::register::Reg;
 ghost use mathlib.Core.Path.{_≡_};
 ghost use lib.Dec.{eqb};
-ghost use Rattle.isa.specs.Names.{regNamed, csrNamed};
 ghost use Rattle.isa.specs.Opcode.{opcodeNamed};
 ghost use Rattle.text.specs.Answer.{assembledAs};
-ghost use Rattle.text.specs.Assembling.{csrNumber, regNumber, operandOf, withMnemonic, withOperands, assembleSays};
-ghost use Rattle.text.specs.Places.{Small};
+ghost use Rattle.text.specs.Assembling.{operandOf, withMnemonic, withOperands, assembleSays};
+ghost use Rattle.text.specs.Code.{Small};
 
 // The word; or refusal 12, 13 or 14.
 pub enum Assembled {
@@ -28,35 +27,19 @@ pub enum Operand {
     NoOperand,
 }
 
-fn csr_operand(name: &[u8]) -> Operand
-    ensures { λ r. ⌜ r ≡ csrNumber (csrNamed (now (name .entry))) ⌝ }
-    ensures { λ r. ⌜ Small r ⌝ }
-{
-    match Csr::from_name(name) {
-        FoundCsr::Is(c) => Operand::Number(c.number),
-        FoundCsr::Unknown => Operand::NoOperand,
-    }
-}
-
-fn reg_operand(name: &[u8]) -> Operand
-    ensures { λ r. ⌜ r ≡ regNumber (regNamed (now (name .entry))) ⌝ }
-    ensures { λ r. ⌜ Small r ⌝ }
-{
-    match Reg::from_name(name) {
-        FoundReg::Is(c) => Operand::Number(c.number),
-        FoundReg::Unknown => Operand::NoOperand,
-    }
-}
-
 // An operand: a CSR where the opcode is the chosen one, else a register.
 fn find_operand(code: u8, chosen: u8, name: &[u8]) -> Operand
     ensures { λ r. ⌜ r ≡ operandOf (eqb code chosen) (now (name .entry)) ⌝ }
-    ensures { λ r. ⌜ Small r ⌝ }
 {
     if code == chosen {
-        csr_operand(name)
-    } else {
-        reg_operand(name)
+        return match Csr::from_name(name) {
+            FoundCsr::Is(c) => Operand::Number(c.number),
+            FoundCsr::Unknown => Operand::NoOperand,
+        };
+    }
+    match Reg::from_name(name) {
+        FoundReg::Is(c) => Operand::Number(c.number),
+        FoundReg::Unknown => Operand::NoOperand,
     }
 }
 

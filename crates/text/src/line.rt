@@ -3,7 +3,7 @@ ghost use mathlib.Core.Path.{_≡_};
 ghost use Prim.Native.Nat.{_+_, _≤_};
 ghost use lib.ListN.{length, drop};
 ghost use Rattle.text.specs.Line.{blank, wordy, run, lineOf};
-ghost use Rattle.text.specs.Places.{splitAs, within};
+ghost use Rattle.text.specs.Code.{splitAs, within};
 
 // The words of a line: from a to b, from c to d, from e to f.
 pub enum Split {

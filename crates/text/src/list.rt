@@ -8,10 +8,10 @@ ghost use Prim.Native.Nat.{_+_, _≤_, _<_};
 ghost use lib.Dec.{ltb};
 ghost use lib.ListN.{length};
 ghost use lib.Seq.{sets};
-ghost use Rattle.isa.specs.Table.{pack};
+ghost use Rattle.isa.specs.Code.{pack, TellsAll};
 ghost use Rattle.text.specs.Answer.{listedAs};
 ghost use Rattle.text.specs.Listing.{firstIsCsr, secondIsCsr, operandName, fitSays, fitLeaves, listSays, listLeaves};
-ghost use Rattle.text.specs.Places.{keyText};
+ghost use Rattle.text.specs.Code.{keyText};
 
 // The text's length; or refusal 10 or 11.
 pub enum Listed {
@@ -20,8 +20,10 @@ pub enum Listed {
     NoRoom,
 }
 
+// The name of an operand as a key: at most five bytes.
 fn operand(is_csr: bool, n: u8) -> u64
-    ensures { λ r. ⌜ r ≡ pack (operandName «is_csr» n) ⌝ }
+    requires { ⌜ n < 16 ⌝ }
+    ensures { λ r. ⌜ (r ≡ pack (operandName «is_csr» n)) × (r < 1099511627776) ⌝ }
 {
     if is_csr {
         Csr { number: n }.name()
@@ -109,17 +111,28 @@ fn put3(out: &mut [u8], m: u64, d: u64, s: u64) -> Listed
     Listed::Text(c)
 }
 
-// The text of a word at the front of the output, its length; 10 where the opcode gives reason 2, then 11.
-pub fn list(word: u16, out: &mut [u8]) -> Listed
+// The same as `list`, by a table that is lent: making one costs more than a line. Another table's names could be longer than the room that is made for
+// them, so it asks for the one that tells the rules.
+pub fn list_in(table: &[u8], word: u16, out: &mut [u8]) -> Listed
+    requires { ⌜ TellsAll (now table) ⌝ }
     ensures { λ r. ⌜ listedAs r ≡ listSays word (length (now (out .entry))) ⌝ }
     ensures { λ r. ⌜ now (out .exit) ≡ listLeaves word (now (out .entry)) ⌝ }
 {
     let code = (word % 256) as u8;
     let first = (word / 4096) as u8;
     let second = (word / 256 % 16) as u8;
-    let m = opcode::mnemonic(code);
+    let m = opcode::mnemonic(table, code);
     if m == 0 {
         return Listed::Reason2;
     }
     put3(out, m, first_key(code, first), second_key(code, second))
+}
+
+// The text of a word at the front of the output, its length; 10 where the opcode gives reason 2, then 11.
+pub fn list(word: u16, out: &mut [u8]) -> Listed
+    ensures { λ r. ⌜ listedAs r ≡ listSays word (length (now (out .entry))) ⌝ }
+    ensures { λ r. ⌜ now (out .exit) ≡ listLeaves word (now (out .entry)) ⌝ }
+{
+    let table = opcode::table();
+    list_in(&table, word, out)
 }

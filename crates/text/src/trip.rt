@@ -4,7 +4,8 @@ use crate::assemble::Assembled;
 use crate::list;
 use crate::list::Listed;
 ghost use mathlib.Core.Path.{_≡_};
-ghost use Rattle.text.specs.Assembling.{againOf, againFrom, assembleSays};
+ghost use Rattle.text.specs.Assembling.{againOf, assembleSays};
+ghost use Rattle.text.specs.Code.{againFrom};
 
 // What a word's listing assembles to: that word, unless its opcode gives reason 2. No word gives any other answer.
 pub enum Again {

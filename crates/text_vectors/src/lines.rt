@@ -3,8 +3,6 @@ use text::assemble;
 use text::assemble::Assembled;
 use text::list;
 use text::list::Listed;
-ghost use mathlib.Core.Path.{_≡_};
-ghost use lib.ListN.{length};
 
 // A refusal's number, 0 where accepted, and the value.
 struct Numbered {

@@ -91,23 +91,23 @@ fn label(op: Op) -> u64 {
     }
 }
 
-fn opcode_row(code: u8) {
+fn opcode_row(table: &[u8], code: u8) {
     report::hex(code as u64, 2);
     report::space();
-    let key = opcode::mnemonic(code);
+    let key = opcode::mnemonic(table, code);
     if key == 0 {
         report::text(b"-");
     } else {
         report::name(key);
     }
     report::space();
-    report::name(label(opcode::decode(code)));
+    report::name(label(opcode::decode(table, code)));
     report::end();
 }
 
-fn opcode_rows() {
+fn opcode_rows(table: &[u8]) {
     for code in 0..=255u8 {
-        opcode_row(code);
+        opcode_row(table, code);
     }
 }
 
@@ -153,8 +153,8 @@ fn digest(op: Op, d: u16, words: &[u16]) -> u64 {
     digest
 }
 
-fn digest_row(code: u8, op: Op, d: u16, words: &[u16]) {
-    report::name(opcode::mnemonic(code));
+fn digest_row(table: &[u8], code: u8, op: Op, d: u16, words: &[u16]) {
+    report::name(opcode::mnemonic(table, code));
     report::space();
     report::hex(d as u64, 4);
     report::space();
@@ -162,18 +162,18 @@ fn digest_row(code: u8, op: Op, d: u16, words: &[u16]) {
     report::end();
 }
 
-fn digest_rows(code: u8, words: &[u16]) {
-    let op = opcode::decode(code);
+fn digest_rows(table: &[u8], code: u8, words: &[u16]) {
+    let op = opcode::decode(table, code);
     let mut i = 0;
     while i < words.len() {
-        digest_row(code, op, words[i], words);
+        digest_row(table, code, op, words[i], words);
         i += 1;
     }
 }
 
-fn edge_row(code: u8, d: u16, s: u16) {
-    let a = answer(opcode::decode(code), d, s);
-    report::name(opcode::mnemonic(code));
+fn edge_row(table: &[u8], code: u8, d: u16, s: u16) {
+    let a = answer(opcode::decode(table, code), d, s);
+    report::name(opcode::mnemonic(table, code));
     report::space();
     report::hex(d as u64, 4);
     report::space();
@@ -185,18 +185,18 @@ fn edge_row(code: u8, d: u16, s: u16) {
     report::end();
 }
 
-fn edges_of(code: u8, d: u16, edges: &[u16]) {
+fn edges_of(table: &[u8], code: u8, d: u16, edges: &[u16]) {
     let mut i = 0;
     while i < edges.len() {
-        edge_row(code, d, edges[i]);
+        edge_row(table, code, d, edges[i]);
         i += 1;
     }
 }
 
-fn edge_rows(code: u8, edges: &[u16]) {
+fn edge_rows(table: &[u8], code: u8, edges: &[u16]) {
     let mut i = 0;
     while i < edges.len() {
-        edges_of(code, edges[i], edges);
+        edges_of(table, code, edges[i], edges);
         i += 1;
     }
 }
@@ -221,15 +221,15 @@ const UNIT: [u8; 16] = [
     0x1b,
 ];
 
-fn all_digests(words: &[u16]) {
+fn all_digests(table: &[u8], words: &[u16]) {
     for k in 0..16usize {
-        digest_rows(UNIT[k], words);
+        digest_rows(table, UNIT[k], words);
     }
 }
 
-fn all_edges(edges: &[u16]) {
+fn all_edges(table: &[u8], edges: &[u16]) {
     for k in 0..16usize {
-        edge_rows(UNIT[k], edges);
+        edge_rows(table, UNIT[k], edges);
     }
 }
 
@@ -306,9 +306,10 @@ pub fn run(input: &[u8]) {
         report::text(b"no names\n");
         return;
     }
-    opcode_rows();
+    let table = opcode::table();
+    opcode_rows(&table);
     condition_rows(&words[0..n]);
-    all_digests(&words[0..n]);
-    all_edges(&words[0..9]);
+    all_digests(&table, &words[0..n]);
+    all_edges(&table, &words[0..9]);
     name_rows(&input[names..]);
 }

@@ -1,14 +1,13 @@
 -- And, or, exclusive or and inversion, as the machine computes them, go bit by bit.
-use mathlib.Core.Path.{_≡_, refl, sym, ap, _∙_}
+use mathlib.Core.Path.{_≡_, refl, _∙_}
 use mathlib.Core.Bool.{Bool, true, false, cond, not, _&&_, _||_, xor}
-use Prim.Native.Nat.{ℕ, zero, suc, _+_, _-_, _*_, _/_, _%_, _^_, _≤_, _<_, min, max}
+use Prim.Native.Nat.{ℕ, zero, suc, _+_, _-_, _*_, _/_, _%_, _^_, _<_, min, max}
 use native.Mathlib.Nat.{pow-suc, mod-eq-of-lt}
 use native.Mathlib.Omega.{arith}
 use lib.Dec.{eqb}
 use lib.Bits.{bitAnd, bitOr, bitXor, differ, and-step, or-step, xor-step, and-shr, or-shr, xor-shr, and-lt, or-lt, xor-lt}
-use lib.Pow.{pow-pos}
 use Rattle.word.specs.Bits.{bitAt, fromBits, andAt, orAt, xorAt, notAt}
-use Rattle.word.proofs.Digits.{two, by-bits, below, bits-low}
+use Rattle.word.proofs.Digits.{two, by-bits, bits-low}
 
 -- An operation whose lowest digit is `digit` of the lowest digits, and which commutes with halving, has bit i `test` of the bits i.
 module _ (op digit : ℕ → ℕ → ℕ) (test : Bool → Bool → Bool)
@@ -21,12 +20,12 @@ module _ (op digit : ℕ → ℕ → ℕ) (test : Bool → Bool → Bool)
     lowest : (a b : ℕ) → op a b % 2 ≡ digit (a % 2) (b % 2)
     lowest a b = let s = small (a % 2) (b % 2) (omega arith) (omega arith) in omega (arith, step a b)
 
-    bit-of : (a b i : ℕ) → bitAt (op a b) i ≡ test (bitAt a i) (bitAt b i)
-    bit-of a b i =
+    bit-op : (a b i : ℕ) → bitAt (op a b) i ≡ test (bitAt a i) (bitAt b i)
+    bit-op a b i =
         rw (halved a b i, lowest (a / 2 ^ i) (b / 2 ^ i)) (rule (a / 2 ^ i % 2) (b / 2 ^ i % 2) (omega arith) (omega arith))
 
     pub bitwise : (k a b : ℕ) → a < 2 ^ k → b < 2 ^ k → op a b ≡ fromBits k (λ i. test (bitAt a i) (bitAt b i))
-    bitwise k a b ha hb = by-bits k (λ i. test (bitAt a i) (bitAt b i)) (fits k a b ha hb) (λ i l. bit-of a b i)
+    bitwise k a b ha hb = by-bits k (λ i. test (bitAt a i) (bitAt b i)) (fits k a b ha hb) (λ i l. bit-op a b i)
 
 pub and-bits : (k a b : ℕ) → a < 2 ^ k → b < 2 ^ k → bitAnd a b ≡ andAt k a b
 and-bits =

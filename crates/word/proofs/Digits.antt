@@ -1,8 +1,8 @@
 -- A number of k bits is told by its bits, and each choice of bits makes one.
-use mathlib.Core.Path.{_≡_, refl, sym, ap, _∙_}
+use mathlib.Core.Path.{_≡_, refl, sym, _∙_}
 use mathlib.Core.Bool.{Bool, true, false, cond}
 use Prim.Native.Nat.{ℕ, zero, suc, _+_, _-_, _*_, _/_, _%_, _^_, _≤_, _<_}
-use native.Mathlib.Nat.{pow-suc, mod-lt, mod-eq-of-lt, add-comm, add-mod-right, add-zero, add-div-right, div-eq-of-lt}
+use native.Mathlib.Nat.{pow-suc, mod-eq-of-lt, add-comm, add-mod-right, add-zero, add-div-right, div-eq-of-lt}
 use native.Mathlib.Omega.{arith}
 use borrow.Author.Tests.{ltb-true, ltb-false}
 use lib.Dec.{eqb, ltb}

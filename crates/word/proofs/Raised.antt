@@ -1,7 +1,7 @@
 -- A signed number that is raised by so much that it is not negative: order, sums and differences go by the raised numbers.
-use mathlib.Core.Path.{_≡_, refl, sym, ap, _∙_}
-use mathlib.Core.Bool.{Bool, true, false, cond, not, _&&_, _||_}
-use Prim.Native.Nat.{ℕ, zero, suc, _+_, _-_, _*_, _%_, _≤_, _<_}
+use mathlib.Core.Path.{_≡_, refl, sym, _∙_}
+use mathlib.Core.Bool.{Bool, true, false, cond, not, _&&_}
+use Prim.Native.Nat.{ℕ, zero, suc, _+_, _-_, _%_, _≤_, _<_}
 use native.Mathlib.Nat.{mod-eq-of-lt, mod-eq-sub-mod}
 use native.Mathlib.Omega.{arith}
 use borrow.Author.Tests.{lt-ltb, le-ltb, lt-leb, le-leb, ltb-true, ltb-false, leb-true, leb-false}
@@ -141,7 +141,13 @@ outside half z p h =
       top,
     ) (inside half (half + half + half) (raise (half + half) z) (omega arith))
 
-module _ (half a b : ℕ) (ha : Halved half a) (hb : Halved half b) where
+module _ (half a b : ℕ) (some : 0 < half) (la : a < half + half) (lb : b < half + half) where
+  ha : Halved half a
+  ha = record { some = some; small = la }
+
+  hb : Halved half b
+  hb = record { some = some; small = lb }
+
   pub signed-at-most : leZ (signed half a) (signed half b) ≡ leb (raised half a) (raised half b)
   signed-at-most =
       at-most half (signed half a) (signed half b) (within-signed half a ha) (within-signed half b hb)
@@ -157,7 +163,7 @@ module _ (half a b : ℕ) (ha : Halved half a) (hb : Halved half b) where
   sum-outside =
       let p = within-signed half a ha in
       let q = within-signed half b hb in
-      outside half (signed half a +ℤ signed half b) (ha .some) (within-sum half half (signed half a) (signed half b) p q)
+      outside half (signed half a +ℤ signed half b) some (within-sum half half (signed half a) (signed half b) p q)
       ∙ rw (raise-sum half half (signed half a) (signed half b) p q, raise-signed half a ha, raise-signed half b hb)
 
   pub difference-outside : not (holds half (signed half a -ℤ signed half b))
@@ -166,5 +172,5 @@ module _ (half a b : ℕ) (ha : Halved half a) (hb : Halved half b) where
       let p = within-signed half a ha in
       let q = within-signed half b hb in
       let n = within-neg half (signed half b) q in
-      outside half (signed half a -ℤ signed half b) (ha .some) (within-sum half half (signed half a) (negℤ (signed half b)) p n)
+      outside half (signed half a -ℤ signed half b) some (within-sum half half (signed half a) (negℤ (signed half b)) p n)
       ∙ rw (raise-sum half half (signed half a) (negℤ (signed half b)) p n, raise-neg half (signed half b) q, raise-signed half a ha, raise-signed half b hb)

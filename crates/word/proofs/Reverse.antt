@@ -1,8 +1,7 @@
 -- The reversal of k bits, one bit a turn, for any k.
 use mathlib.Core.Path.{_≡_, refl, ap, sym, _∙_}
-use mathlib.Core.Bool.{cond}
 use Prim.Native.Nat.{ℕ, zero, suc, _+_, _-_, _*_, _/_, _%_, _^_, _≤_, _<_}
-use native.Mathlib.Nat.{add-comm, add-mul, mul-assoc, mul-right-comm, pow-suc, mul-le-mul-left, mul-le-mul-right, one-mul, mul-one}
+use native.Mathlib.Nat.{add-comm, add-mul, mul-assoc, mul-right-comm, pow-suc, mul-le-mul-left, mul-one}
 use native.Mathlib.Numerals.{sub-one}
 use native.Mathlib.Omega.{arith}
 use lib.Pow.{pow-pos, shr-shr}

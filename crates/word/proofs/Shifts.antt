@@ -1,15 +1,15 @@
 -- The three shifts, as the machine computes them, move bits.
-use mathlib.Core.Path.{_≡_, refl, sym, ap, _∙_}
+use mathlib.Core.Path.{_≡_, refl, ap, _∙_}
 use mathlib.Core.Bool.{Bool, true, false, not, _&&_, Bool·not-not}
-use Prim.Native.Nat.{ℕ, zero, suc, _+_, _-_, _*_, _/_, _%_, _^_, _≤_, _<_, min}
-use native.Mathlib.Nat.{add-comm, mul-assoc, mod-lt, mod-eq-of-lt, div-eq-of-lt, div-le-self, lt-of-le-of-lt, lt-of-lt-of-le}
+use Prim.Native.Nat.{ℕ, suc, _+_, _-_, _*_, _/_, _%_, _^_, _≤_, _<_, min}
+use native.Mathlib.Nat.{add-comm, mul-assoc, mod-lt, div-eq-of-lt, div-le-self, lt-of-le-of-lt, lt-of-lt-of-le}
 use native.Mathlib.Omega.{arith}
-use borrow.Author.Tests.{le-leb, lt-leb, leb-true, leb-false}
-use lib.Dec.{eqb, leb}
+use borrow.Author.Tests.{leb-true, leb-false}
+use lib.Dec.{leb}
 use lib.Bits.{shifted-even}
-use lib.Pow.{pow-pos, pow-add, pow-mono, shl-shr, shr-shr, mod-mod-pow, field}
-use Rattle.word.specs.Bits.{bitAt, fromBits, notAt, shlAt, shrAt, shraAt}
-use Rattle.word.proofs.Digits.{by-bits, below, ext, bit-low, bit-of}
+use lib.Pow.{pow-pos, pow-add, pow-mono, shl-shr, shr-shr}
+use Rattle.word.specs.Bits.{bitAt, shlAt, shrAt, shraAt}
+use Rattle.word.proofs.Digits.{by-bits, ext, bit-low, bit-of}
 use Rattle.word.proofs.Bitwise.{not-bits}
 
 -- ---- to the right

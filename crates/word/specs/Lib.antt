@@ -1,3 +1,4 @@
 pub mod Word
+pub mod Memory
 pub mod Bits
 pub mod Signed

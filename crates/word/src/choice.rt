@@ -9,10 +9,10 @@ pub fn pick(test: bool, yes: u16, other: u16) -> u16
     if test { yes } else { other }
 }
 
-pub fn pick_bool(test: bool, yes: bool, other: bool) -> bool
-    ensures { λ r. ⌜ r ≡ cond test yes other ⌝ }
+pub fn pick_bool(test: bool, yes: bool, otherwise: bool) -> bool
+    ensures { λ r. ⌜ r ≡ cond test yes otherwise ⌝ }
 {
-    if test { yes } else { other }
+    if test { yes } else { otherwise }
 }
 
 // The weight where the test holds, else 0. The bound is for sums of weights.

@@ -9,45 +9,9 @@ Inv-loop i₀ t3 i = i ≤ 3
 abbrev μ-loop : tie.MeasureT-loop
 μ-loop i₀ t3 i = 3 - i
 
-loop-holds : tie.Need-loop-holds Inv-loop μ-loop
-loop-holds c = search needs
-
-slice-aggregate-open-read : tie.Need-slice-aggregate-open-read Inv-loop μ-loop
-slice-aggregate-open-read c = search needs
-
-open-read-requires : tie.Need-open-read-requires Inv-loop μ-loop
-open-read-requires c κs = search needs
-
-close-requires : tie.Need-close-requires Inv-loop μ-loop
-close-requires c κs = search needs
-
-returns : tie.Need-returns Inv-loop μ-loop
-returns c = search needs
-
-add-i : tie.Need-add-i Inv-loop μ-loop
-add-i c = search needs
-
-loop-less : tie.Need-loop-less Inv-loop μ-loop
-loop-less c = search needs
-
-loop-again : tie.Need-loop-again Inv-loop μ-loop
-loop-again c = search needs
-
-returns-2 : tie.Need-returns-2 Inv-loop μ-loop
-returns-2 c = search needs
-
 pub hold-standard-spec : {M : Type 1} → statement M
 hold-standard-spec =
     tie.close
     (tie.spec
-    Inv-loop
-    μ-loop
-    loop-holds
-    slice-aggregate-open-read
-    open-read-requires
-    close-requires
-    returns
-    add-i
-    loop-less
-    loop-again
-    returns-2)
+    Inv-loop μ-loop (λ c. search needs) (λ c. search needs) (λ c κs. search needs) (λ c κs. search needs) (λ c. search needs)
+    (λ c. search needs) (λ c. search needs) (λ c. search needs) (λ c. search needs))

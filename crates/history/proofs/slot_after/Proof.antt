@@ -1,14 +1,7 @@
 use borrow.Author.Needs.{needs}
 use borrow.Author.Tests.{eq-eqb, ne-eqb}
-use borrow.Author.Needs.{needs}
 use Rattle.history.proofs.slot_after.Statement.{statement}
 use Rattle.history.proofs.slot_after.Tie as tie
-
-add-if1 : tie.Need-add-if1
-add-if1 c = search needs
-
-add-result : tie.Need-add-result
-add-result c = search needs
 
 returns : tie.Need-returns
 returns c = rw (eq-eqb _ _ (c .if1 .taken))
@@ -17,4 +10,4 @@ returns-2 : tie.Need-returns-2
 returns-2 c = rw (ne-eqb _ _ (c .if1 .left))
 
 pub slot-after-spec : {M : Type 1} → statement M
-slot-after-spec = tie.close (tie.spec add-if1 add-result returns returns-2)
+slot-after-spec = tie.close (tie.spec (λ c. search needs) (λ c. search needs) returns returns-2)

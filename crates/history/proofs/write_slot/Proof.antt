@@ -15,32 +15,8 @@ Inv-loop journal₀ slot words at i₀ journal i = (i ≤ 32) × (length words �
 abbrev μ-loop : tie.MeasureT-loop
 μ-loop journal₀ slot words at i₀ journal i = 32 - i
 
-mul-at : tie.Need-mul-at Inv-loop μ-loop
-mul-at c = search needs
-
 loop-holds : tie.Need-loop-holds Inv-loop μ-loop
 loop-holds c = (search needs, search needs, paste-zero (now (c .args .journal)) (c .args .slot * 32) (c .args .t3), refl)
-
-mul-journal : tie.Need-mul-journal Inv-loop μ-loop
-mul-journal c = search needs
-
-array-read-journal : tie.Need-array-read-journal Inv-loop μ-loop
-array-read-journal c = search needs
-
-add-journal : tie.Need-add-journal Inv-loop μ-loop
-add-journal c = search needs
-
-mul-journal-2 : tie.Need-mul-journal-2 Inv-loop μ-loop
-mul-journal-2 c = search needs
-
-slice-write-journal : tie.Need-slice-write-journal Inv-loop μ-loop
-slice-write-journal c = search needs
-
-add-i : tie.Need-add-i Inv-loop μ-loop
-add-i c = search needs
-
-loop-less : tie.Need-loop-less Inv-loop μ-loop
-loop-less c = search needs
 
 loop-again : tie.Need-loop-again Inv-loop μ-loop
 loop-again c =
@@ -49,9 +25,6 @@ loop-again c =
     let e : set (l .journal) (a .slot * 32 + l .i) (getD (a .t3) (l .i) 0) ≡ paste (now (a .journal)) (a .slot * 32) (a .t3) (l .i + 1) =
     rw (l .inv .2, add-one) (paste-suc (now (a .journal)) (a .slot * 32) (a .t3) (l .i) 0 (omega arith) (omega (arith, l .inv .1))) in
     (search needs, l .inv .1, e, simp length-set (l .inv .3))
-
-same-length : tie.Need-same-length Inv-loop μ-loop
-same-length c = search needs
 
 returns : tie.Need-returns Inv-loop μ-loop
 returns c =
@@ -62,17 +35,5 @@ pub write-slot-spec : {M : Type 1} → statement M
 write-slot-spec =
     tie.close
     (tie.spec
-    Inv-loop
-    μ-loop
-    mul-at
-    loop-holds
-    mul-journal
-    array-read-journal
-    add-journal
-    mul-journal-2
-    slice-write-journal
-    add-i
-    loop-less
-    loop-again
-    same-length
-    returns)
+    Inv-loop μ-loop (λ c. search needs) loop-holds (λ c. search needs) (λ c. search needs) (λ c. search needs) (λ c. search needs)
+    (λ c. search needs) (λ c. search needs) (λ c. search needs) loop-again (λ c. search needs) returns)

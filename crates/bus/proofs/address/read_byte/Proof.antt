@@ -5,12 +5,6 @@ use borrow.Author.Needs.{needs}
 use Rattle.bus.proofs.address.read_byte.Statement.{statement}
 use Rattle.bus.proofs.address.read_byte.Tie as tie
 
-shared-slice-read-result : tie.Need-shared-slice-read-result
-shared-slice-read-result c = search needs
-
-device-byte-requires : tie.Need-device-byte-requires
-device-byte-requires c κs = search needs
-
 returns : tie.Need-returns
 unfolding byteAt
 returns c = simp (lt-ltb _ _ (c .before .if1 .taken))
@@ -20,5 +14,4 @@ unfolding byteAt
 returns-2 c = simp (c .device-byte .ensures, le-ltb _ _ (c .before .if1 .left))
 
 pub read-byte-spec : {M : Type 1} → statement M
-read-byte-spec =
-    tie.close (tie.spec shared-slice-read-result device-byte-requires returns returns-2)
+read-byte-spec = tie.close (tie.spec (λ c. search needs) (λ c κs. search needs) returns returns-2)

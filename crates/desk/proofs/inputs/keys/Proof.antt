@@ -6,66 +6,15 @@ use Rattle.desk.proofs.inputs.keys.Statement.{statement}
 use Rattle.desk.proofs.inputs.keys.Tie as tie
 
 abbrev Inv-loop : tie.InvT-loop
-Inv-loop bytes ram₀ journal₀ g₀ i₀ ram journal g i = (i ≤ length bytes) × ((length ram ≡ length ram₀) × (length journal ≡ length journal₀))
+Inv-loop bytes ram₀ journal₀ o₀ i₀ ram journal o i = (i ≤ length bytes) × ((length ram ≡ length ram₀) × (length journal ≡ length journal₀))
 
 abbrev μ-loop : tie.MeasureT-loop
-μ-loop bytes ram₀ journal₀ g₀ i₀ ram journal g i = length bytes - i
-
-loop-holds : tie.Need-loop-holds Inv-loop μ-loop
-loop-holds c = search needs
-
-shared-slice-read-one-key : tie.Need-shared-slice-read-one-key Inv-loop μ-loop
-shared-slice-read-one-key c = search needs
-
-one-key-requires : tie.Need-one-key-requires Inv-loop μ-loop
-one-key-requires c κs = search needs
-
-received-requires : tie.Need-received-requires Inv-loop μ-loop
-received-requires c κs = search needs
-
-same-length : tie.Need-same-length Inv-loop μ-loop
-same-length c = search needs
-
-same-length-2 : tie.Need-same-length-2 Inv-loop μ-loop
-same-length-2 c = search needs
-
-returns : tie.Need-returns Inv-loop μ-loop
-returns c = search needs
-
-add-i : tie.Need-add-i Inv-loop μ-loop
-add-i c = search needs
-
-loop-less : tie.Need-loop-less Inv-loop μ-loop
-loop-less c = search needs
-
-loop-again : tie.Need-loop-again Inv-loop μ-loop
-loop-again c = search needs
-
-same-length-3 : tie.Need-same-length-3 Inv-loop μ-loop
-same-length-3 c = search needs
-
-same-length-4 : tie.Need-same-length-4 Inv-loop μ-loop
-same-length-4 c = search needs
-
-returns-2 : tie.Need-returns-2 Inv-loop μ-loop
-returns-2 c = search needs
+μ-loop bytes ram₀ journal₀ o₀ i₀ ram journal o i = length bytes - i
 
 pub keys-spec : {M : Type 1} → statement M
 keys-spec =
     tie.close
     (tie.spec
-    Inv-loop
-    μ-loop
-    loop-holds
-    shared-slice-read-one-key
-    one-key-requires
-    received-requires
-    same-length
-    same-length-2
-    returns
-    add-i
-    loop-less
-    loop-again
-    same-length-3
-    same-length-4
-    returns-2)
+    Inv-loop μ-loop (λ c κs. search needs) (λ c. search needs) (λ c. search needs) (λ c. search needs) (λ c κs. search needs)
+    (λ c. search needs) (λ c. search needs) (λ c. search needs) (λ c. search needs) (λ c. search needs) (λ c. search needs)
+    (λ c. search needs) (λ c. search needs))

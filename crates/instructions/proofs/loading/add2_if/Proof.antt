@@ -2,28 +2,11 @@ use borrow.Author.Needs.{needs}
 use Rattle.instructions.proofs.loading.add2_if.Statement.{statement}
 use Rattle.instructions.proofs.loading.add2_if.Tie as tie
 
-mul-w : tie.Need-mul-w
-mul-w c = search needs
-
-element-copy-out-w : tie.Need-element-copy-out-w
-element-copy-out-w c = search needs
-
-plus-requires : tie.Need-plus-requires
-plus-requires c κs = search needs
-
-mul-regs : tie.Need-mul-regs
-mul-regs c = search needs
-
-element-write-regs : tie.Need-element-write-regs
-element-write-regs c = search needs
-
 returns : tie.Need-returns
 returns c = simp (c .plus .ensures, c .before .before .if1 .taken)
-
-returns-2 : tie.Need-returns-2
-returns-2 c = search needs
 
 pub add2-if-spec : {M : Type 1} → statement M
 add2-if-spec =
     tie.close
-    (tie.spec mul-w element-copy-out-w plus-requires mul-regs element-write-regs returns returns-2)
+    (tie.spec
+    (λ c. search needs) (λ c. search needs) (λ c κs. search needs) (λ c. search needs) (λ c. search needs) returns (λ c. search needs))

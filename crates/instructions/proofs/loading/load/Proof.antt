@@ -5,75 +5,36 @@ use borrow.Author.Needs.{needs}
 use Rattle.instructions.proofs.loading.load.Statement.{statement}
 use Rattle.instructions.proofs.loading.load.Tie as tie
 
-cast-d : tie.Need-cast-d
-cast-d c = search needs
-
-cast-s : tie.Need-cast-s
-cast-s c = search needs
-
-mul-at : tie.Need-mul-at
-mul-at c = search needs
-
-element-copy-out-at : tie.Need-element-copy-out-at
-element-copy-out-at c = search needs
-
-loads-byte-requires : tie.Need-loads-byte-requires
-loads-byte-requires c κs = search needs
-
-load-byte-requires : tie.Need-load-byte-requires
-load-byte-requires c κs = search needs
-
 returns : tie.Need-returns
-returns c = (byte-loads (now (c .before .before .before .before .before .before .args .regs)) (c .before .before .before .before .before .before .args .v) (now (c .before .before .before .before .before .before .args .ram)) (c .before .before .before .before .before .before .args .opcode) (c .before .before .before .before .before .before .args .operands / 16) (c .before .before .before .before .before .before .args .operands % 16) _ _ (c .before .before .before .loads-byte .ensures) (c .before .before .if1 .taken) _ (c .load-byte .ensures), search needs)
-
-element-copy-out-f : tie.Need-element-copy-out-f
-element-copy-out-f c = search needs
-
-holds-requires : tie.Need-holds-requires
-holds-requires c κs = search needs
-
-goes-requires : tie.Need-goes-requires
-goes-requires c κs = search needs
-
-load-word-requires : tie.Need-load-word-requires
-load-word-requires c κs = search needs
-
-steps-after-requires : tie.Need-steps-after-requires
-steps-after-requires c κs = search needs
-
-add2-if-requires : tie.Need-add2-if-requires
-add2-if-requires c κs = search needs
+returns c =
+    let c3 = c .before .before .before in let c6 = c3 .before .before .before in let a = c6 .args in (
+      byte-loads (now (a .regs)) (a .v) (now (a .ram)) (a .opcode) (a .operands / 16) (a .operands % 16) _ _ (c3 .loads-byte .ensures)
+          (c .before .before .if1 .taken) _ (c .load-byte .ensures),
+      search needs,
+    )
 
 returns-2 : tie.Need-returns-2
-returns-2 c = (word-loads (now (c .before .before .before .before .before .before .before .before .before .before .before .before .before .args .regs)) (c .before .before .before .before .before .before .before .before .before .before .before .before .before .args .v) (now (c .before .before .before .before .before .before .before .before .before .before .before .before .before .args .ram)) (c .before .before .before .before .before .before .before .before .before .before .before .before .before .args .opcode) (c .before .before .before .before .before .before .before .before .before .before .before .before .before .args .operands / 16) (c .before .before .before .before .before .before .before .before .before .before .before .before .before .args .operands % 16) _ _ (c .before .before .before .before .before .before .before .before .before .before .loads-byte .ensures) (c .before .before .before .before .before .before .before .before .before .if1 .left) _ _ (c .before .before .before .before .before .before .before .holds .ensures) (c .before .before .before .before .before .before .goes .ensures) (c .before .before .before .before .before .if2 .taken) _ (c .before .steps-after .ensures) _ _ (c .before .before .before .load-word .ensures) (c .add2-if .ensures), search needs)
-
-steps-past-requires : tie.Need-steps-past-requires
-steps-past-requires c κs = search needs
-
-add2-if-requires-2 : tie.Need-add2-if-requires-2
-add2-if-requires-2 c κs = search needs
+returns-2 c =
+    let c3 = c .before .before .before in let c5 = c3 .before .before in let c6 = c5 .before in let c7 = c6 .before in
+    let c9 = c7 .before .before in let c10 = c9 .before in let c13 = c10 .before .before .before in let a = c13 .args in (
+      word-loads (now (a .regs)) (a .v) (now (a .ram)) (a .opcode) (a .operands / 16) (a .operands % 16) _ _ (c10 .loads-byte .ensures) (c9 .if1 .left) _ _
+          (c7 .holds .ensures) (c6 .goes .ensures) (c5 .if2 .taken) _ (c .before .steps-after .ensures) _ _ (c3 .load-word .ensures) (c .add2-if .ensures),
+      search needs,
+    )
 
 returns-3 : tie.Need-returns-3
-returns-3 c = (none-loads (now (c .before .before .before .before .before .before .before .before .before .before .before .args .regs)) (c .before .before .before .before .before .before .before .before .before .before .before .args .v) (now (c .before .before .before .before .before .before .before .before .before .before .before .args .ram)) (c .before .before .before .before .before .before .before .before .before .before .before .args .opcode) (c .before .before .before .before .before .before .before .before .before .before .before .args .operands / 16) (c .before .before .before .before .before .before .before .before .before .before .before .args .operands % 16) _ _ (c .before .before .before .before .before .before .before .before .loads-byte .ensures) (c .before .before .before .before .before .before .before .if1 .left) _ _ (c .before .before .before .before .before .holds .ensures) (c .before .before .before .before .goes .ensures) (c .before .before .before .if2 .left) _ (c .before .steps-past .ensures) _ (c .add2-if2 .ensures), search needs)
+returns-3 c =
+    let c3 = c .before .before .before in let c4 = c3 .before in let c5 = c4 .before in let c7 = c5 .before .before in
+    let c8 = c7 .before in let c11 = c8 .before .before .before in let a = c11 .args in (
+      none-loads (now (a .regs)) (a .v) (now (a .ram)) (a .opcode) (a .operands / 16) (a .operands % 16) _ _ (c8 .loads-byte .ensures) (c7 .if1 .left) _ _
+          (c5 .holds .ensures) (c4 .goes .ensures) (c3 .if2 .left) _ (c .before .steps-past .ensures) _ (c .add2-if2 .ensures),
+      search needs,
+    )
 
 pub load-spec : {M : Type 1} → statement M
 load-spec =
     tie.close
     (tie.spec
-    cast-d
-    cast-s
-    mul-at
-    element-copy-out-at
-    loads-byte-requires
-    load-byte-requires
-    returns
-    element-copy-out-f
-    holds-requires
-    goes-requires
-    load-word-requires
-    steps-after-requires
-    add2-if-requires
-    returns-2
-    steps-past-requires
-    add2-if-requires-2
-    returns-3)
+    (λ c. search needs) (λ c. search needs) (λ c. search needs) (λ c. search needs) (λ c κs. search needs) (λ c κs. search needs)
+    returns (λ c. search needs) (λ c κs. search needs) (λ c κs. search needs) (λ c κs. search needs) (λ c κs. search needs)
+    (λ c κs. search needs) returns-2 (λ c κs. search needs) (λ c κs. search needs) returns-3)

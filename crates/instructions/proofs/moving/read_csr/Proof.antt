@@ -4,12 +4,6 @@ use borrow.Author.Needs.{needs}
 use Rattle.instructions.proofs.moving.read_csr.Statement.{statement}
 use Rattle.instructions.proofs.moving.read_csr.Tie as tie
 
-mul-result : tie.Need-mul-result
-mul-result c = search needs
-
-element-copy-out-result : tie.Need-element-copy-out-result
-element-copy-out-result c = search needs
-
 returns : tie.Need-returns
 returns c = simp (lt-ltb _ _ (c .before .if1 .taken))
 
@@ -17,4 +11,4 @@ returns-2 : tie.Need-returns-2
 returns-2 c = simp (le-ltb _ _ (c .if1 .left))
 
 pub read-csr-spec : {M : Type 1} → statement M
-read-csr-spec = tie.close (tie.spec mul-result element-copy-out-result returns returns-2)
+read-csr-spec = tie.close (tie.spec (λ c. search needs) (λ c. search needs) returns returns-2)

@@ -5,9 +5,6 @@ use borrow.Author.Needs.{needs}
 use Rattle.instructions.proofs.storing.old_byte.Statement.{statement}
 use Rattle.instructions.proofs.storing.old_byte.Tie as tie
 
-shared-slice-read-result : tie.Need-shared-slice-read-result
-shared-slice-read-result c = search needs
-
 returns : tie.Need-returns
 returns c = refl
 
@@ -15,4 +12,4 @@ returns-2 : tie.Need-returns-2
 returns-2 c = sym (List·getD-eq-default (now (c .before .args .ram)) 0 (c .if1 .left))
 
 pub old-byte-spec : {M : Type 1} → statement M
-old-byte-spec = tie.close (tie.spec shared-slice-read-result returns returns-2)
+old-byte-spec = tie.close (tie.spec (λ c. search needs) returns returns-2)

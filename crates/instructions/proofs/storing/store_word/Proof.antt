@@ -1,38 +1,17 @@
-use Rattle.bus.specs.Addresses.{oldBytes}
+use Rattle.word.specs.Memory.{oldBytes}
 use borrow.Author.Needs.{needs}
 use Rattle.instructions.proofs.storing.store_word.Statement.{statement}
 use Rattle.instructions.proofs.storing.store_word.Tie as tie
 
-old-byte-requires : tie.Need-old-byte-requires
-old-byte-requires c κs = search needs
-
-plus-requires : tie.Need-plus-requires
-plus-requires c κs = search needs
-
-old-byte-requires-2 : tie.Need-old-byte-requires-2
-old-byte-requires-2 c κs = search needs
-
-join-requires : tie.Need-join-requires
-join-requires c κs = search needs
-
-write-word-requires : tie.Need-write-word-requires
-write-word-requires c κs = search needs
-
-same-length : tie.Need-same-length
-same-length c = search needs
-
 returns : tie.Need-returns
 unfolding oldBytes
-returns c = (λ g. simp (c .before .before .write-word .ensures, c .before .before .before .before .join .ensures, c .before .before .before .before .before .old-byte2 .ensures, c .before .before .before .before .before .before .plus .ensures, c .before .before .before .before .before .before .before .before .old-byte .ensures), search needs)
+returns c =
+    let c4 = c .before .before .before .before in let c5 = c4 .before in let c6 = c5 .before in let c8 = c6 .before .before in
+    (λ g. simp (c .before .before .write-word .ensures, c4 .join .ensures, c5 .old-byte2 .ensures, c6 .plus .ensures, c8 .old-byte .ensures), search needs)
 
 pub store-word-spec : {M : Type 1} → statement M
 store-word-spec =
     tie.close
     (tie.spec
-    old-byte-requires
-    plus-requires
-    old-byte-requires-2
-    join-requires
-    write-word-requires
-    same-length
-    returns)
+    (λ c κs. search needs) (λ c κs. search needs) (λ c κs. search needs) (λ c κs. search needs) (λ c κs. search needs)
+    (λ c. search needs) returns)

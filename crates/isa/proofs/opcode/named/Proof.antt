@@ -1,54 +1,38 @@
-use mathlib.Core.Path.{_≡_, sym, ap, subst, _∙_}
-use mathlib.Core.List.{map}
-use Prim.Native.Nat.{ℕ}
+use mathlib.Core.Path.{_∙_}
+use Prim.Native.Nat.{_<_}
 use native.Mathlib.Omega.{arith}
-use borrow.Author.Needs.{needs}
-use borrow.Author.Tests.{lt-ltb}
 use denote.Ref.{now}
-use Rattle.isa.specs.Names.{lower}
-use Rattle.isa.specs.Opcode.{opcodeNamed}
-use Rattle.isa.specs.Table.{markOf, CanOnlyBe}
-use Rattle.isa.proofs.Keyed.{known-bytes, lower-bytes}
-use Rattle.isa.proofs.Marks.{found, missed}
+use Rattle.isa.proofs.Keyed.{known-bytes}
+use Rattle.isa.proofs.Tables.{tells-name}
+use Rattle.isa.proofs.Guesses.{opcode-found, opcode-missed}
+use borrow.Author.Needs.{needs}
 use Rattle.isa.proofs.opcode.named.Statement.{statement}
 use Rattle.isa.proofs.opcode.named.Tie as tie
 
-key-requires : tie.Need-key-requires
-key-requires c κs = search needs
-
-mark-requires : tie.Need-mark-requires
-mark-requires c κs = search needs
-
-plain-row-requires : tie.Need-plain-row-requires
-plain-row-requires c κs = search needs
-
-name-requires : tie.Need-name-requires
-name-requires c κs = search needs
-
 returns : tie.Need-returns
-unfolding opcodeNamed
 returns c =
-    let w = now (c .before .before .before .before .before .before .args .name) in
-    let b = lower-bytes w (known-bytes w (c .before .before .before .before .before .shared-slice-known .given)) in
-    let r = c .before .before .plain-row in
-    let k = c .before .before .before .before .key .ensures in
-    let e = found (map lower w) b (r .result .0) (omega arith) (sym (r .ensures .0) ∙ sym (c .before .name .ensures) ∙ c .if1 .taken ∙ k) in
-    rw (e, lt-ltb (r .result .0) 256 (omega arith))
+    let c3 = c .before .before .before in
+    let t = c3 in
+    let l = t .before in
+    let k = l .before in
+    let w = now (k .before .before .args .name) in
+    let h : l .likely .result < 256 = omega arith in
+    let m = c .before .mnemonic .ensures ∙ tells-name _ (t .table .ensures) (l .likely .result) h in
+    opcode-found w (known-bytes w (k .before .shared-slice-known .given)) _ _ _ (k .key .ensures) h (l .likely .ensures) m (c .if1 .taken)
 
 returns-2 : tie.Need-returns-2
-unfolding opcodeNamed
 returns-2 c =
-    let w = now (c .before .before .before .before .before .before .args .name) in
-    let b = lower-bytes w (known-bytes w (c .before .before .before .before .before .shared-slice-known .given)) in
-    let r = c .before .before .plain-row in
-    let k = c .before .before .before .before .key .ensures in
-    rw
-    (missed
-    (map lower w)
-    b
-    (r .result .0)
-    (subst (λ (x : ℕ). CanOnlyBe 0 x (r .result .0)) (c .before .before .before .mark .ensures ∙ ap markOf k) (r .ensures .1))
-    (λ q. c .if1 .left (c .before .name .ensures ∙ r .ensures .0 ∙ q ∙ sym k)))
+    let c3 = c .before .before .before in
+    let t = c3 in
+    let l = t .before in
+    let k = l .before in
+    let w = now (k .before .before .args .name) in
+    let h : l .likely .result < 256 = omega arith in
+    let m = c .before .mnemonic .ensures ∙ tells-name _ (t .table .ensures) (l .likely .result) h in
+    opcode-missed w (known-bytes w (k .before .shared-slice-known .given)) _ _ _ (k .key .ensures) h (l .likely .ensures) m (c .if1 .left)
 
 pub named-spec : {M : Type 1} → statement M
-named-spec = tie.close (tie.spec key-requires mark-requires plain-row-requires name-requires returns returns-2)
+named-spec =
+    tie.close
+    (tie.spec
+    (λ c κs. search needs) (λ c κs. search needs) (λ c κs. search needs) (λ c. search needs) (λ c κs. search needs) returns returns-2)

@@ -1,41 +1,29 @@
-use mathlib.Core.Path.{_≡_, sym, ap, _∙_}
+use mathlib.Core.Path.{sym, _∙_}
+use denote.Ref.{now}
 use borrow.Author.Needs.{needs}
+use Rattle.text.specs.Listing.{firstIsCsr, secondIsCsr}
+use Rattle.text.proofs.Operands.{small}
 use Rattle.text.proofs.assemble.assemble_words.Statement.{statement}
 use Rattle.text.proofs.assemble.assemble_words.Tie as tie
 
-named-requires : tie.Need-named-requires
-named-requires c κs = search needs
-
-enum-known-code : tie.Need-enum-known-code
-enum-known-code c = search needs
-
-enum-told : tie.Need-enum-told
-enum-told c = search needs
-
-returns : tie.Need-returns
-returns c = rw (sym (c .before .before .named .ensures) ∙ c .enum-told .given .1)
-
-find-operand-requires : tie.Need-find-operand-requires
-find-operand-requires c κs = search needs
-
-find-operand-requires-2 : tie.Need-find-operand-requires-2
-find-operand-requires-2 c κs = search needs
-
 encode-requires : tie.Need-encode-requires
-encode-requires c κs = (c .before .find-operand .ensures .1, c .find-operand2 .ensures .1)
+encode-requires c κs =
+    let k = c .before .before in
+    let a = k .before .before .before .before .before .before .before .args in
+    let n = k .before .code .given .0 .0 in
+    (small (firstIsCsr n) (now (a .d)) (c .before .find-operand .ensures), small (secondIsCsr n) (now (a .s)) (c .find-operand2 .ensures))
 
 returns-2 : tie.Need-returns-2
-returns-2 c = rw (sym (c .before .before .before .before .before .before .named .ensures) ∙ c .before .before .before .before .code .given .1, ← c .before .before .find-operand .ensures .0, ← c .before .find-operand2 .ensures .0) (c .encode .ensures)
+returns-2 c =
+    let c4 = c .before .before .before .before in
+    let k = c4 in
+    rw (sym (k .before .before .named .ensures) ∙ k .code .given .1, ← c .before .before .find-operand .ensures, ← c .before .find-operand2 .ensures)
+    (c .encode .ensures)
 
 pub assemble-words-spec : {M : Type 1} → statement M
 assemble-words-spec =
     tie.close
     (tie.spec
-    named-requires
-    enum-known-code
-    enum-told
-    returns
-    find-operand-requires
-    find-operand-requires-2
-    encode-requires
-    returns-2)
+    (λ c κs. search needs) (λ c. search needs) (λ c. search needs)
+    (λ c. rw (sym (c .before .before .named .ensures) ∙ c .enum-told .given .1)) (λ c κs. search needs) (λ c κs. search needs)
+    encode-requires returns-2)

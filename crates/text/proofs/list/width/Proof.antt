@@ -1,11 +1,9 @@
-use mathlib.Core.Path.{_≡_, refl, sym, ap, _∙_}
-use Prim.Native.Nat.{ℕ, _+_, _≤_}
-use native.Mathlib.Numerals.{add-one}
+use mathlib.Core.Path.{_≡_}
+use Prim.Native.Nat.{_+_}
 use native.Mathlib.Omega.{arith}
 use borrow.Author.Needs.{needs}
-use lib.ListN.{length, length-set}
-use lib.Seq.{sets}
-use Rattle.text.specs.Places.{digits, keyText}
+use lib.ListN.{length}
+use Rattle.text.specs.Code.{digits, keyText}
 use Rattle.text.proofs.KeyTexts.{digits-end, digits-more, key-short}
 use Rattle.text.proofs.list.width.Statement.{statement}
 use Rattle.text.proofs.list.width.Tie as tie
@@ -27,14 +25,9 @@ returns c =
 
 add-n : tie.Need-add-n Inv-loop μ-loop
 add-n c =
+    let c3 = c .before .before .before in
     let v = c .before .before .loop in
-    omega (arith, v .inv, key-short (c .before .before .before .args .key))
-
-sub-k : tie.Need-sub-k Inv-loop μ-loop
-sub-k c = search needs
-
-loop-less : tie.Need-loop-less Inv-loop μ-loop
-loop-less c = search needs
+    omega (arith, v .inv, key-short (c3 .args .key))
 
 loop-again : tie.Need-loop-again Inv-loop μ-loop
 loop-again c =
@@ -49,4 +42,5 @@ returns-2 c =
 pub width-spec : {M : Type 1} → statement M
 width-spec =
     tie.close
-    (tie.spec Inv-loop μ-loop loop-holds returns add-n sub-k loop-less loop-again returns-2)
+    (tie.spec
+    Inv-loop μ-loop loop-holds returns add-n (λ c. search needs) (λ c. search needs) loop-again returns-2)

@@ -4,42 +4,14 @@ use Rattle.vectors.proofs.instructions.opcode_rows.Statement.{statement
 use Rattle.vectors.proofs.instructions.opcode_rows.Tie as tie
 
 abbrev Inv-loop : tie.InvT-loop
-Inv-loop code₀ code = code ≤ 255
+Inv-loop table code₀ code = code ≤ 255
 
 abbrev μ-loop : tie.MeasureT-loop
-μ-loop code₀ code = 255 - code
-
-loop-holds : tie.Need-loop-holds Inv-loop μ-loop
-loop-holds c = search needs
-
-opcode-row-requires : tie.Need-opcode-row-requires Inv-loop μ-loop
-opcode-row-requires c κs = search needs
-
-add-code : tie.Need-add-code Inv-loop μ-loop
-add-code c = search needs
-
-loop-less : tie.Need-loop-less Inv-loop μ-loop
-loop-less c = search needs
-
-loop-again : tie.Need-loop-again Inv-loop μ-loop
-loop-again c = search needs
-
-returns : tie.Need-returns Inv-loop μ-loop
-returns c = search needs
-
-returns-2 : tie.Need-returns-2 Inv-loop μ-loop
-returns-2 c = search needs
+μ-loop table code₀ code = 255 - code
 
 pub opcode-rows-spec : {M : Type 1} → statement M
 opcode-rows-spec =
     tie.close
     (tie.spec
-    Inv-loop
-    μ-loop
-    loop-holds
-    opcode-row-requires
-    add-code
-    loop-less
-    loop-again
-    returns
-    returns-2)
+    Inv-loop μ-loop (λ c. search needs) (λ c κs. search needs) (λ c. search needs) (λ c. search needs) (λ c. search needs)
+    (λ c. search needs) (λ c. search needs))

@@ -4,11 +4,8 @@ use borrow.Author.Needs.{needs}
 use Rattle.word.proofs.bits.not.Statement.{statement}
 use Rattle.word.proofs.bits.not.Tie as tie
 
-sub-result : tie.Need-sub-result
-sub-result c = search needs
-
 returns : tie.Need-returns
 returns c = not-bits 16 (c .args .a) (omega arith)
 
 pub not-spec : {M : Type 1} → statement M
-not-spec = tie.close (tie.spec sub-result returns)
+not-spec = tie.close (tie.spec (λ c. search needs) returns)

@@ -13,24 +13,19 @@ loop-holds : tie.Need-loop-holds Inv-loop μ-loop
 loop-holds c = begun 16 (c .args .a)
 
 mul-r : tie.Need-mul-r Inv-loop μ-loop
-mul-r c = omega (arith, fits 16 (c .before .before .args .a) (c .before .loop .left) (c .before .loop .r) (c .before .loop .rest) (c .loop-test .taken) (c .before .loop .inv))
+mul-r c = let l = c .before .loop in omega (arith, fits 16 (c .before .before .args .a) (l .left) (l .r) (l .rest) (c .loop-test .taken) (l .inv))
 
 add-r : tie.Need-add-r Inv-loop μ-loop
-add-r c = omega (arith, fits 16 (c .before .before .args .a) (c .before .loop .left) (c .before .loop .r) (c .before .loop .rest) (c .loop-test .taken) (c .before .loop .inv))
-
-sub-left : tie.Need-sub-left Inv-loop μ-loop
-sub-left c = omega arith
-
-loop-less : tie.Need-loop-less Inv-loop μ-loop
-loop-less c = omega arith
+add-r c = let l = c .before .loop in omega (arith, fits 16 (c .before .before .args .a) (l .left) (l .r) (l .rest) (c .loop-test .taken) (l .inv))
 
 loop-again : tie.Need-loop-again Inv-loop μ-loop
-loop-again c = turned 16 (c .before .before .args .a) (c .before .loop .left) (c .before .loop .r) (c .before .loop .rest) (c .loop-test .taken) (c .before .loop .inv)
+loop-again c = let l = c .before .loop in turned 16 (c .before .before .args .a) (l .left) (l .r) (l .rest) (c .loop-test .taken) (l .inv)
 
 returns : tie.Need-returns Inv-loop μ-loop
-returns c = ended 16 (c .before .before .args .a) (c .before .loop .left) (c .before .loop .r) (c .before .loop .rest) (c .loop-test .left) (c .before .loop .inv)
+returns c = let l = c .before .loop in ended 16 (c .before .before .args .a) (l .left) (l .r) (l .rest) (c .loop-test .left) (l .inv)
 
 pub rev-spec : {M : Type 1} → statement M
 rev-spec =
     tie.close
-    (tie.spec Inv-loop μ-loop loop-holds mul-r add-r sub-left loop-less loop-again returns)
+    (tie.spec
+    Inv-loop μ-loop loop-holds mul-r add-r (λ c. omega arith) (λ c. omega arith) loop-again returns)

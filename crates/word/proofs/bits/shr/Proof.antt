@@ -5,11 +5,8 @@ use borrow.Author.Needs.{needs}
 use Rattle.word.proofs.bits.shr.Statement.{statement}
 use Rattle.word.proofs.bits.shr.Tie as tie
 
-shr-result : tie.Need-shr-result
-shr-result c = search needs
-
 returns : tie.Need-returns
 returns c = shr-bits 16 (c .args .a) (c .args .by % 16) (omega arith)
 
 pub shr-spec : {M : Type 1} → statement M
-shr-spec = tie.close (tie.spec shr-result returns)
+shr-spec = tie.close (tie.spec (λ c. search needs) returns)

@@ -1,4 +1,4 @@
-use Prim.Native.Nat.{_%_, _-_, _^_}
+use Prim.Native.Nat.{_%_, _-_}
 use lib.Pow.{shr-le}
 use Rattle.word.proofs.Shifts.{shra-low, shra-high}
 use native.Mathlib.Omega.{arith}
@@ -6,17 +6,8 @@ use borrow.Author.Needs.{needs}
 use Rattle.word.proofs.bits.shra.Statement.{statement}
 use Rattle.word.proofs.bits.shra.Tie as tie
 
-shr-result : tie.Need-shr-result
-shr-result c = search needs
-
 returns : tie.Need-returns
 returns c = shra-low 16 (c .before .args .a) (c .before .args .by % 16) (omega arith)
-
-sub-result : tie.Need-sub-result
-sub-result c = search needs
-
-shr-result-2 : tie.Need-shr-result-2
-shr-result-2 c = search needs
 
 sub-result-2 : tie.Need-sub-result-2
 sub-result-2 c = omega (arith, shr-le (65535 - c .before .args .a) (c .before .args .by % 16))
@@ -26,4 +17,6 @@ returns-2 c = shra-high 16 (c .before .args .a) (c .before .args .by % 16) (omeg
 
 pub shra-spec : {M : Type 1} → statement M
 shra-spec =
-    tie.close (tie.spec shr-result returns sub-result shr-result-2 sub-result-2 returns-2)
+    tie.close
+    (tie.spec
+    (λ c. search needs) returns (λ c. search needs) (λ c. search needs) sub-result-2 returns-2)

@@ -1,18 +1,14 @@
-use mathlib.Core.Path.{_≡_, refl, sym, ap, _∙_}
+use mathlib.Core.Path.{sym}
 use Rattle.word.proofs.Raised.{signed-at-most}
 use native.Mathlib.Omega.{arith}
 use borrow.Author.Needs.{needs}
 use Rattle.word.proofs.signed.at_most.Statement.{statement}
 use Rattle.word.proofs.signed.at_most.Tie as tie
 
-raised-requires : tie.Need-raised-requires
-raised-requires c κs = search needs
-
-raised-requires-2 : tie.Need-raised-requires-2
-raised-requires-2 c κs = search needs
-
 returns : tie.Need-returns
-returns c = simp (c .before .raised .ensures, c .raised2 .ensures) (sym (signed-at-most 32768 (c .before .before .args .a) (c .before .before .args .b) (record { some = omega arith; small = omega arith }) (record { some = omega arith; small = omega arith })))
+returns c =
+    let a = c .before .before .args in
+    simp (c .before .raised .ensures, c .raised2 .ensures) (sym (signed-at-most 32768 (a .a) (a .b) (omega arith) (omega arith) (omega arith)))
 
 pub at-most-spec : {M : Type 1} → statement M
-at-most-spec = tie.close (tie.spec raised-requires raised-requires-2 returns)
+at-most-spec = tie.close (tie.spec (λ c κs. search needs) (λ c κs. search needs) returns)

@@ -1,0 +1,212 @@
+-- Demand 3 over the C boundary: the start words mean the starting state, words given are taken back as the same machine, and a list of exported calls is
+-- the rules' play of them.
+use Prim.Native.Nat.{ℕ, zero, suc, _≤_}
+use mathlib.Core.Path.{_≡_, refl, _∙_, sym, ap, subst}
+use mathlib.Core.Bool.{Bool, true, false, cond}
+use mathlib.Core.List.{List, [], _∷_, map}
+use native.Mathlib.Omega.{arith}
+use borrow.Author.Tests.{eqb-false}
+use lib.Dec.{eqb}
+use Rattle.word.specs.Word.{lowAt}
+use Rattle.bus.specs.State.{reset}
+use Rattle.bus.specs.Good.{Good}
+use Rattle.bus.specs.declared.state.Cpu.{Cpu}
+use Rattle.history.specs.Trace.{Next, refuses, gives, Undo, Answer, Call, give, run, back, Cause, no-run, budget, stopped, Left, leaves, upTo}
+use Rattle.history.specs.Trace.{guarded, causeOf, after, stepped, ran, one, Exactly}
+use Rattle.history.specs.Ring.{Ring, slots}
+use Rattle.records.specs.Record.{recordWith, undoFrom}
+use Rattle.calls.specs.Inputs.{Input, step, box, nextOf, machine}
+use Rattle.calls.specs.Calls.{W, checkOf, answerOf, worldOf, started}
+use Rattle.calls.specs.declared.state.Machine.{Machine as MachineT}
+use Rattle.mb50.specs.Boundary.{taken, given, packed, runSteps, resultOf, Crossed, crossed}
+use Rattle.exact.specs.Demand3.{Allowed, Made, Chain, ended}
+use Rattle.exact.specs.Fields.{Budgeted}
+use Rattle.exact.specs.Boundary3.{startWords, numberIn, stepsIn, Owned, meant, Kept, Exported, Exports, owned}
+use Rattle.exact.specs.Boundary3.{leftOver, leftIn, startOwned, ownedAtEnd, Demand3Across}
+use Rattle.exact.proofs.Records.{reads-undo}
+use Rattle.exact.proofs.Lawful.{roomy}
+use Rattle.exact.proofs.Counts.{journal, counts}
+use Rattle.exact.proofs.Places.{stays}
+use Rattle.exact.proofs.Played.{P, at, playing, starting, AptCalls, apt, plays, Reached, reached}
+use Rattle.exact.proofs.Seen.{calls, all-apt, played}
+
+-- "The starting state is all words 0 but word 24, which is 2": it is the rules' own
+pub starts : taken startWords ≡ started
+unfolding undoFrom reset
+starts = refl
+
+-- ---- the words that a call gives
+abbrev machineWith : Cpu → ℕ → ℕ → MachineT
+machineWith c next held = record { cpu = c; next = next; held = held }
+
+reads : (c : Cpu) (next held : ℕ) → Good c → taken (recordWith c next held 0) ≡ machineWith c next held
+unfolding undoFrom
+reads c next held g =
+    ap (λ (u : Undo Cpu). machineWith (u .cpu) (u .count) (u .first))
+    (reads-undo (record { cpu = c; count = next; first = held; low = 0; high = 0 }) (roomy g) (omega arith))
+
+-- the next call takes them as the machine that they were given for
+pub takes-given : (c : Cpu) (next held : ℕ) → Good c → next ≤ 1024 → held ≤ 1024 → taken (given c next held) ≡ machineWith c next held
+takes-given c next held g n h =
+    let e : lowAt 16 next ≡ next = omega arith in
+    let f : lowAt 16 held ≡ held = omega arith in
+    ap (λ (x : ℕ). taken (recordWith c x (lowAt 16 held) 0)) e ∙ ap (λ (x : ℕ). taken (recordWith c next x 0)) f ∙ reads c next held g
+
+abbrev givenOf : W → List ℕ
+givenOf w = given (w .box .cpu) (w .journal .next) (w .journal .held)
+
+abbrev machineOf : W → MachineT
+machineOf w = machineWith (w .box .cpu) (w .journal .next) (w .journal .held)
+
+gives-back : {w : W} → Reached w → taken (givenOf w) ≡ machineOf w
+gives-back {w} r = takes-given (w .box .cpu) (w .journal .next) (w .journal .held) (r .good .cpu) (r .sits .next) (r .sits .held)
+
+-- so for every machine that calls reach from the start
+pub words-mean : (m ws : List ℕ) (xs : List Made) → Allowed m ws → Chain started m ws xs → taken (givenOf (ended m ws xs)) ≡ machineOf (ended m ws xs)
+words-mean m ws xs ok ch =
+    let e = played (slots ws) started m ws (record { inputs = []; held = 0 }) xs ch in
+    gives-back (subst (λ (p : P). Reached (p .world)) e (reached m ws (calls xs) ok (all-apt started m ws xs ch)))
+
+-- ---- the fields of a result
+number-field : (n s b k : ℕ) → n ≤ 9 → s ≤ 65535 → numberIn (packed n s b k) ≡ n
+unfolding packed
+number-field n s b k l h = omega arith
+
+steps-field : (n s b k : ℕ) → n ≤ 9 → s ≤ 65535 → stepsIn (packed n s b k) ≡ s
+unfolding packed
+steps-field n s b k l h = omega arith
+
+-- a run tells its steps
+cause-steps : (s : ℕ) (x : Next Cpu) → runSteps (causeOf machine journal x) s ≡ s
+cause-steps s (refuses n) = refl
+cause-steps s (gives e) = refl
+
+stepped-steps : (s : ℕ) (f : W → Answer Cpu Ring) (w : W) (x : Next Cpu) → ((v : W) → runSteps (f v .cause) s ≡ s) →
+    runSteps (stepped machine journal f w x .cause) s ≡ s
+stepped-steps s f w (refuses n) h = refl
+stepped-steps s f w (gives e) h = h (after machine journal w e)
+
+run-steps : (s k : ℕ) (w : W) → runSteps (ran machine journal k w .cause) s ≡ s
+run-steps s zero w = cause-steps s (nextOf step (w .box))
+run-steps s (suc k) w = stepped-steps s (ran machine journal k) w (nextOf step (w .box)) (run-steps s k)
+
+-- what is left does not depend on the steps that any other call has
+module _ (n : ℕ) (l : Left Input) where
+  abbrev leftWith : Call Input → ℕ → ℕ → Left Input
+  leftWith c number steps = leaves (upTo n) step c number steps l
+
+  give-left : (i : Input) (number s t : ℕ) → leftWith (give i) number s ≡ leftWith (give i) number t
+  give-left i zero s t = refl
+  give-left i (suc r) s t = refl
+
+  back-left : (number s t : ℕ) → leftWith back number s ≡ leftWith back number t
+  back-left zero s t = refl
+  back-left (suc r) s t = refl
+
+  abbrev leftTold : Call Input → Answer Cpu Ring → Left Input
+  leftTold c a = leftWith c (a .number) (runSteps (a .cause) (a .steps))
+
+  run-left : (k check : ℕ) (w : W) (a : Answer Cpu Ring) → runSteps (a .cause) (a .steps) ≡ a .steps →
+      leftTold (run k) (guarded check w a) ≡ leftWith (run k) (guarded check w a .number) (guarded check w a .steps)
+  run-left k zero w a e = ap (leftWith (run k) (a .number)) e
+  run-left k (suc r) w a e = refl
+
+  told-left : (c : Call Input) (w : W) → leftTold c (answerOf c w) ≡ leftWith c (answerOf c w .number) (answerOf c w .steps)
+  told-left (give i) w = give-left i (answerOf (give i) w .number) _ _
+  told-left (run k) w = run-left k (checkOf w) w (ran machine journal k w) (run-steps _ k w)
+  told-left back w = back-left (answerOf back w .number) _ _
+
+-- ---- one call over the boundary
+module _ (c : Call Input) (o : Owned) (r : ℕ) (o′ : Owned) (k : Kept c o r o′) where
+  abbrev a : Answer Cpu Ring
+  a = answerOf c (meant o)
+
+  result-is : r ≡ resultOf a
+  unfolding crossed
+  result-is = sym (ap (λ (x : Crossed). x .result) k)
+
+  words-are : cond (eqb (a .number) 0) (givenOf (a .world)) (o .words) ≡ o′ .words
+  unfolding crossed
+  words-are = ap (λ (x : Crossed). x .words) k
+
+  ram-is : a .world .box .ram ≡ o′ .ram
+  unfolding crossed
+  ram-is = ap (λ (x : Crossed). x .ram) k
+
+  journal-is : a .world .journal .words ≡ o′ .journal
+  unfolding crossed
+  journal-is = ap (λ (x : Crossed). x .journal) k
+
+  run-few : Budgeted c → runSteps (a .cause) (a .steps) ≤ 65535
+  run-few b = go (a .cause) (counts c (meant o) b .steps)
+    where
+      go : (t : Cause) → a .steps ≤ 65535 → runSteps t (a .steps) ≤ 65535
+      go no-run h = omega arith
+      go budget h = h
+      go stopped h = h
+
+  -- bits 0–15 are the number of the answer
+  number-is : Budgeted c → numberIn r ≡ answerOf c (meant o) .number
+  number-is b = ap numberIn result-is ∙ number-field (a .number) _ _ _ (counts c (meant o) b .number) (run-few b)
+
+  -- what is left, by the result's number and steps, is what is left by the answer's
+  left-is : (n : ℕ) (l : Left Input) → Budgeted c → leftWith n l c (numberIn r) (stepsIn r) ≡ leftWith n l c (a .number) (a .steps)
+  left-is n l b =
+      ap (λ (x : ℕ). leftWith n l c x (stepsIn r)) (number-is b)
+      ∙ ap (leftWith n l c (a .number)) (ap stepsIn result-is ∙ steps-field (a .number) _ _ _ (counts c (meant o) b .number) (run-few b))
+      ∙ told-left n l c (meant o)
+
+  -- the answer's memory and journal, with any machine
+  abbrev beside : MachineT → W
+  beside x = worldOf x (a .world .box .ram) (a .world .journal .words)
+
+  -- the words mean what the answer leaves: those of an accepted call were given for it, and a refused call changes nothing
+  world-is : Reached (a .world) → a .world ≡ meant o′
+  world-is h = go (eqb (a .number) 0) refl
+    where
+      meant-same : {w v : List ℕ} → w ≡ v → beside (taken w) ≡ worldOf (taken v) (o′ .ram) (o′ .journal)
+      meant-same e = rw (e, ram-is, journal-is)
+
+      go : (t : Bool) → eqb (a .number) 0 ≡ t → a .world ≡ meant o′
+      go true e = ap beside (sym (gives-back h)) ∙ meant-same (rw e at words-are)
+      go false e =
+          ap (λ (w : W). beside (machineOf w)) (stays c (meant o) (eqb-false (a .number) 0 e)) ∙ meant-same (rw e at words-are)
+
+-- ---- a list of calls over the boundary
+abbrev named : List Exported → List (Call Input)
+named xs = map (λ (x : Exported). x .call) xs
+
+named-apt : (o : Owned) (xs : List Exported) → Exports o xs → AptCalls (named xs)
+named-apt o [] ch = tt
+named-apt o (x ∷ xs) ch = (apt (x .call) (ch .0 .0), named-apt (x .after) xs (ch .2))
+
+-- whatever is called from here on, what it reaches is good
+abbrev Ever : ℕ → P → Type 0
+Ever n p = (cs : List (Call Input)) → AptCalls cs → Reached (playing n cs p .world)
+
+-- the rules' play of the calls is what the words, RAM and journal mean
+crosses : (n : ℕ) (o : Owned) (l : Left Input) (xs : List Exported) → Exports o xs → Ever n (at (meant o) l) →
+    playing n (named xs) (at (meant o) l) ≡ at (meant (owned o xs)) (leftOver n l xs)
+crosses n o l [] ch v = refl
+crosses n o l (x ∷ xs) ch v =
+    let c = x .call in
+    let t = apt c (ch .0 .0) in
+    let l′ = leftWith n l c (numberIn (x .result)) (stepsIn (x .result)) in
+    let e : one machine journal checkOf (upTo n) c (at (meant o) l) ≡ at (meant (x .after)) l′ =
+    ap (at (answerOf c (meant o) .world)) (sym (left-is c o (x .result) (x .after) (ch .1) n l (ch .0 .1)))
+    ∙ ap (λ (w : W). at w l′) (world-is c o (x .result) (x .after) (ch .1) (v (c ∷ []) (t, tt)))
+    in
+    ap (playing n (named xs)) e ∙ crosses n (x .after) l′ xs (ch .2) (subst (Ever n) e (λ cs f. v (c ∷ cs) (t, f)))
+
+-- demand 3 for who links libmb50.a
+pub demand3-across : (m ws : List ℕ) (xs : List Exported) → Allowed m ws → Exports (startOwned m ws) xs → Demand3Across m ws xs
+demand3-across m ws xs ok ch =
+    let n = slots ws in
+    let none : Left Input = record { inputs = []; held = 0 } in
+    let s : starting m ws ≡ at (meant (startOwned m ws)) none = ap (λ (x : MachineT). at (worldOf x m ws) none) (sym starts) in
+    let v : Ever n (at (meant (startOwned m ws)) none) = subst (Ever n) s (λ cs f. reached m ws cs ok f) in
+    let e : playing n (named xs) (starting m ws) ≡ at (meant (ownedAtEnd m ws xs)) (leftIn ws xs) =
+    ap (playing n (named xs)) s ∙ crosses n (startOwned m ws) none xs ch v
+    in
+    let x = subst (Exactly machine journal checkOf (box reset m)) e (plays m ws ok (named xs) (named-apt (startOwned m ws) xs ch)) in
+    record { state = x .state; held = x .held; refused = λ r o k. number-is back (ownedAtEnd m ws xs) r o k tt ∙ x .refused }

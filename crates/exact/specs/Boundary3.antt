@@ -1,0 +1,84 @@
+-- Demand 3 over the C boundary, for who links libmb50.a: "Stepping back is exact for a caller who starts from the starting state below with memory and
+-- journal of an allowed size, and hands each call the words, RAM and journal that the last one left". Sentences are of docs/BOUNDARY.md where it is not
+-- said that they are the demand's. `proofs/Across.antt` proves it.
+use Prim.Native.Nat.{ℕ}
+use mathlib.Core.Path.{_≡_}
+use mathlib.Core.List.{List, [], _∷_}
+use mathlib.Core.Option.{some}
+use lib.ListN.{replicate, set}
+use Rattle.word.specs.Word.{lowAt, highAt}
+use Rattle.bus.specs.State.{word, reset}
+use Rattle.history.specs.Trace.{Call, back, Left, leaves, upTo, ruled, backNumber}
+use Rattle.history.specs.Ring.{slots}
+use Rattle.calls.specs.Inputs.{Input, step, box, machine}
+use Rattle.calls.specs.Calls.{W, worldOf}
+use Rattle.mb50.specs.Boundary.{taken, Crosses}
+use Rattle.exact.specs.Demand3.{Typed}
+use Rattle.exact.specs.Fields.{Budgeted}
+
+-- "The starting state is all words 0 but word 24, which is 2 (T=1)."
+abbrev pub startWords : List ℕ
+startWords = set (replicate 32 0) 24 2
+
+-- "0–15 the refusal's number, 0 if accepted"
+abbrev pub numberIn : ℕ → ℕ
+numberIn result = lowAt 16 result
+
+-- "16–31 the steps of a run; 0 for any other call, a lone step too"
+abbrev pub stepsIn : ℕ → ℕ
+stepsIn result = lowAt 16 (highAt 16 result)
+
+-- "the caller owns state, RAM and journal"
+pub record Owned : Type 0 where
+  pub words : List ℕ
+  pub ram : List ℕ
+  pub journal : List ℕ
+
+-- the machine that the words mean, with its memory and its journal
+abbrev pub meant : Owned → W
+meant o = worldOf (taken (o .words)) (o .ram) (o .journal)
+
+-- an export's promise
+abbrev pub Kept : Call Input → Owned → ℕ → Owned → Type 0
+Kept c o r o′ = Crosses c (o .words) (o .ram) (o .journal) r (o′ .words) (o′ .ram) (o′ .journal)
+
+-- one call: what it was, what it returned, and what the caller owns afterwards
+pub record Exported : Type 0 where
+  pub call : Call Input
+  pub result : ℕ
+  pub after : Owned
+
+-- arguments are what C can pass: "uint8_t byte", "uint16_t content", "uint16_t budget". "Nothing is kept between calls: the caller owns state, RAM and
+-- journal, and hands all three to each call": each export keeps its promise, on what the one before it left
+abbrev pub Exports : Owned → List Exported → Type 0
+Exports o [] = Unit {0}
+Exports o (x ∷ xs) = (Typed (x .call) × Budgeted (x .call)) × Kept (x .call) o (x .result) (x .after) × Exports (x .after) xs
+
+-- what the caller owns after the calls
+abbrev pub owned : Owned → List Exported → Owned
+owned o [] = o
+owned o (x ∷ xs) = owned (x .after) xs
+
+-- the demand's "inputs not taken back", newest first, and number held, by the numbers and steps in the results
+abbrev pub leftOver : ℕ → Left Input → List Exported → Left Input
+leftOver n l [] = l
+leftOver n l (x ∷ xs) = leftOver n (leaves (upTo n) step (x .call) (numberIn (x .result)) (stepsIn (x .result)) l) xs
+
+abbrev pub leftIn : List ℕ → List Exported → Left Input
+leftIn ws xs = leftOver (slots ws) (record { inputs = []; held = 0 }) xs
+
+-- the demand's "Start from reset, with memory and an empty journal": the start words, and any RAM and journal
+abbrev pub startOwned : List ℕ → List ℕ → Owned
+startOwned m ws = record { words = startWords; ram = m; journal = ws }
+
+abbrev pub ownedAtEnd : List ℕ → List ℕ → List Exported → Owned
+ownedAtEnd m ws xs = owned (startOwned m ws) xs
+
+pub record Demand3Across (m ws : List ℕ) (xs : List Exported) : Type 0 where
+  -- the demand: "registers, status registers, halted mark, devices and memory are what demand 2's rules give for the inputs not taken back, run in
+  -- order from the start"
+  pub state : ruled machine (box reset m) (leftIn ws xs .inputs) ≡ some (meant (ownedAtEnd m ws xs) .box)
+  -- "26 records held"
+  pub held : word (ownedAtEnd m ws xs .words) 26 ≡ leftIn ws xs .held
+  -- the demand: "A step-back is refused exactly when no record is held": whatever `mb50_step_back` returns next, its number is 8 then, and else 0
+  pub refused : (r : ℕ) (o : Owned) → Kept back (ownedAtEnd m ws xs) r o → numberIn r ≡ backNumber (leftIn ws xs .held)

@@ -1,2 +1,0 @@
-pub mod Record
-pub mod Inputs

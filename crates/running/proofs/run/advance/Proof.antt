@@ -1,0 +1,74 @@
+use borrow.Author.Needs.{needs}
+use Prim.Native.Nat.{_-_, _*_, _≤_}
+use mathlib.Core.Path.{_≡_, refl, _∙_}
+use native.Mathlib.Omega.{arith}
+use denote.Ref.{now}
+use lib.ListN.{length}
+use Rattle.isa.specs.Code.{TellsAll}
+use Rattle.bus.specs.State.{cpu}
+use Rattle.running.specs.Code.{standing}
+use Rattle.running.proofs.Turns.{runs, Going, begin, turn, halts, ends}
+use Rattle.running.proofs.run.advance.Statement.{statement}
+use Rattle.running.proofs.run.advance.Tie as tie
+
+abbrev Inv-loop : tie.InvT-loop
+Inv-loop table regs₀ csrs₀ ram₀ journal₀ budget b₀ at₀ steps₀ bus₀ regs csrs ram journal b at steps bus =
+    (steps ≤ budget) × (bus ≤ 255 * steps)
+    × (TellsAll table → Going budget (runs budget (standing (cpu regs₀ csrs₀ b₀) at₀ ram₀ journal₀)) steps bus (standing (cpu regs csrs b) at ram journal))
+    × (length ram ≡ length ram₀) × (length journal ≡ length journal₀)
+
+abbrev μ-loop : tie.MeasureT-loop
+μ-loop table regs₀ csrs₀ ram₀ journal₀ budget b₀ at₀ steps₀ bus₀ regs csrs ram journal b at steps bus =
+    budget - steps
+
+loop-holds : tie.Need-loop-holds Inv-loop μ-loop
+loop-holds c =
+    let c3 = c .before .before .before in let a = c3 .args in
+    (omega arith, omega arith, (λ tells. begin (a .budget) (standing (cpu (now (a .regs)) (now (a .csrs)) (a .board)) (a .place) (now (a .ram)) (now (a .journal)))), refl, refl)
+
+add-bus : tie.Need-add-bus Inv-loop μ-loop
+add-bus c =
+    let c7 = c .before .before .before .before .before .before .before in
+    let c14 = c7 .before .before .before .before .before .before .before in let c18 = c14 .before .before .before .before in
+    omega (arith, c14 .loop .inv .0, c14 .loop .inv .1, c7 .recorded-step .ok, c18 .fits .budget)
+
+add-steps : tie.Need-add-steps Inv-loop μ-loop
+add-steps c =
+    let c12 = c .before .before .before .before .before .before .before .before .before .before .before .before in
+    let c14 = c12 .before .before in let c18 = c14 .before .before .before .before in
+    omega (arith, c14 .loop .inv .0, c12 .if2 .left, c18 .fits .budget)
+
+loop-less : tie.Need-loop-less Inv-loop μ-loop
+loop-less c =
+    let c12 = c .before .before .before .before .before .before .before .before .before .before .before .before in
+    let c14 = c12 .before .before in
+    omega (arith, c14 .loop .inv .0, c12 .if2 .left)
+
+loop-again : tie.Need-loop-again Inv-loop μ-loop
+loop-again c =
+    let c7 = c .before .before .before .before .before .before .before in let c12 = c7 .before .before .before .before .before in
+    let c13 = c12 .before in let c14 = c13 .before in (
+      omega (arith, c14 .loop .inv .0, c12 .if2 .left),
+      omega (arith, c14 .loop .inv .1, c7 .recorded-step .ok),
+      (λ tells. turn _ _ _ _ _
+          (c14 .loop .inv .2 tells) (c7 .recorded-step .result) _ _ _ _ (c13 .if1 .left) (omega (arith, c14 .loop .inv .0, c12 .if2 .left))
+          (c7 .recorded-step .ensures tells)),
+      c7 .recorded-step .kept .1 .1 .1 .1 .1 .0 ∙ c14 .loop .inv .3,
+      c7 .recorded-step .kept .1 .1 .1 .1 .1 .1 .0 ∙ c14
+          .loop .inv .4,
+    )
+
+returns : tie.Need-returns Inv-loop μ-loop
+returns c tells = rw (c .told .ensures) (halts _ _ _ _ _ (c .before .before .loop .inv .2 tells) (c .before .if1 .taken))
+
+returns-2 : tie.Need-returns-2 Inv-loop μ-loop
+returns-2 c tells =
+    let c3 = c .before .before .before in
+    rw (c .told2 .ensures) (ends _ _ _ _ _ (c3 .loop .inv .2 tells) (c .before .before .if1 .left) (c .before .if2 .taken))
+
+pub advance-spec : {M : Type 1} → statement M
+advance-spec =
+    tie.close
+    (tie.spec
+    Inv-loop μ-loop loop-holds (λ c κs. search needs) (λ c κs. search needs) (λ c κs. search needs) (λ c. search needs) add-bus
+    add-steps loop-less loop-again (λ c. search needs) (λ c. search needs) returns (λ c. search needs) (λ c. search needs) returns-2)
