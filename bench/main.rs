@@ -2,6 +2,7 @@
 //! its items and both times in nanoseconds; `bench/run` makes a table of them. Both must leave the same state, RAM, journal and results;
 //! otherwise it says what differs and stops.
 
+#[allow(dead_code)] // an image's listing is listing.rs's
 mod emulator;
 mod library;
 mod programs;

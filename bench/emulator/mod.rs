@@ -5,6 +5,7 @@
 mod alu;
 pub mod boundary;
 mod cpu;
+pub mod image;
 mod mnemonics;
 mod text;
 

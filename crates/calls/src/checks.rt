@@ -45,15 +45,22 @@ pub fn refused(m: Machine, why: Refusal) -> Reply
     }
 }
 
+// Which refusal the first check that fails gives.
+fn first_refusal(number: u8) -> Refusal
+    ensures { λ r. ⌜ r ≡ firstRefusal number ⌝ }
+{
+    if number == 1 {
+        return Refusal::RamTooLong;
+    }
+    if number == 2 {
+        return Refusal::BadJournal;
+    }
+    Refusal::BadState
+}
+
 // The refusal of the first check that fails.
 pub fn failed(m: Machine, number: u8) -> Reply
     ensures { λ r. ⌜ r ≡ refuse m (firstRefusal number) ⌝ }
 {
-    if number == 1 {
-        return refused(m, Refusal::RamTooLong);
-    }
-    if number == 2 {
-        return refused(m, Refusal::BadJournal);
-    }
-    refused(m, Refusal::BadState)
+    refused(m, first_refusal(number))
 }

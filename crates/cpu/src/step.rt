@@ -50,7 +50,8 @@ fn execute(
     opcode: u8,
     operands: u8,
 ) -> Done
-    ensures { λ q. ⌜ toldAs (now (regs .exit)) (now (csrs .exit)) q (now (ram .exit)) ≡ toldOf (now (ram .entry)) (executed op (cpu (now (regs .entry)) (now (csrs .entry)) b) (now (ram .entry)) opcode (highAt 4 operands) (lowAt 4 operands)) ⌝ }
+    ensures { λ q. ⌜ toldAs (now (regs .exit)) (now (csrs .exit)) q (now (ram .exit))
+        ≡ toldOf (now (ram .entry)) (executed op (cpu (now (regs .entry)) (now (csrs .entry)) b) (now (ram .entry)) opcode (highAt 4 operands) (lowAt 4 operands)) ⌝ }
 {
     let before = regs[F];
     match op {
@@ -95,13 +96,14 @@ fn execute(
 // The interrupt or the instruction that is due. The table is lent, since making it costs more than a step; what the step does by another table than
 // the one that tells the rules is not said.
 pub fn step(
-    table: &[u8],
+    table: &[u8; 256],
     regs: &mut [u16; 16],
     csrs: &mut [u16; 6],
     ram: &mut [u8],
     b: Board,
 ) -> Done
-    ensures { λ q. ⌜ (TellsAll (now (table .entry)) → toldAs (now (regs .exit)) (now (csrs .exit)) q (now (ram .exit)) ≡ toldOf (now (ram .entry)) (stepOf (cpu (now (regs .entry)) (now (csrs .entry)) b) (now (ram .entry)))) ⌝ }
+    ensures { λ q. ⌜ (TellsAll (now (table .entry)) → toldAs (now (regs .exit)) (now (csrs .exit)) q (now (ram .exit))
+        ≡ toldOf (now (ram .entry)) (stepOf (cpu (now (regs .entry)) (now (csrs .entry)) b) (now (ram .entry)))) ⌝ }
 {
     let f = regs[F];
     if exceptions::due(f) {

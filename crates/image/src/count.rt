@@ -9,7 +9,7 @@ ghost use Rattle.isa.specs.Code.{TellsAll};
 ghost use Rattle.image.specs.Image.{pairLine, linesOf};
 
 // How long the line of two bytes is, at any address: 12 bytes, and the instruction's text or a question mark. `NoRoom` does not come.
-fn pair_length(table: &[u8], b: u8, c: u8) -> usize
+fn pair_length(table: &[u8; 256], b: u8, c: u8) -> usize
     requires { ⌜ TellsAll (now table) ⌝ }
     ensures { λ r. ⌜ r ≡ length (pairLine 0 b c) ⌝ }
 {
@@ -22,7 +22,7 @@ fn pair_length(table: &[u8], b: u8, c: u8) -> usize
 }
 
 // How long the lines of an image are, at any address.
-fn lines_length(table: &[u8], image: &[u8]) -> usize
+fn lines_length(table: &[u8; 256], image: &[u8]) -> usize
     requires { ⌜ TellsAll (now table) × (length (now image) ≤ 65536) ⌝ }
     ensures { λ r. ⌜ r ≡ length (linesOf 0 (now (image .entry))) ⌝ }
 {
@@ -39,7 +39,7 @@ fn lines_length(table: &[u8], image: &[u8]) -> usize
 }
 
 // Whether so much room is too little. No line is longer than 28 bytes, so that with room for these nothing is counted.
-pub(crate) fn is_short(table: &[u8], room: usize, image: &[u8]) -> bool
+pub(crate) fn is_short(table: &[u8; 256], room: usize, image: &[u8]) -> bool
     requires { ⌜ TellsAll (now table) × (length (now image) ≤ 65536) ⌝ }
     ensures { λ r. ⌜ r ≡ ltb room (length (linesOf 0 (now (image .entry)))) ⌝ }
 {

@@ -46,7 +46,7 @@ fn front(a: u16, b: u8, c: u8) -> [u8; 11]
 }
 
 // An instruction's text, or a question mark, and the line's end. `NoRoom` does not come: there is room for the text.
-fn put_instruction(table: &[u8], out: &mut [u8], at: usize, w: u16) -> usize
+fn put_instruction(table: &[u8; 256], out: &mut [u8], at: usize, w: u16) -> usize
     requires { ⌜ TellsAll (now table) × (at + length (instructionOf w ++ Names·bytes "\n") ≤ length (now out)) ⌝ }
     ensures { λ r. ⌜ r ≡ at + length (instructionOf w ++ Names·bytes "\n") ⌝ }
     ensures { λ r. ⌜ now (out .exit) ≡ sets (now (out .entry)) at (instructionOf w ++ Names·bytes "\n") ⌝ }
@@ -58,7 +58,7 @@ fn put_instruction(table: &[u8], out: &mut [u8], at: usize, w: u16) -> usize
     }
 }
 
-fn put_pair(table: &[u8], out: &mut [u8], at: usize, a: u16, b: u8, c: u8) -> usize
+fn put_pair(table: &[u8; 256], out: &mut [u8], at: usize, a: u16, b: u8, c: u8) -> usize
     requires { ⌜ TellsAll (now table) × (at + length (pairLine a b c) ≤ length (now out)) ⌝ }
     ensures { λ r. ⌜ (r ≡ at + length (pairLine a b c)) × (now (out .exit) ≡ sets (now (out .entry)) at (pairLine a b c)) ⌝ }
 {
@@ -78,7 +78,7 @@ fn put_last(out: &mut [u8], at: usize, a: u16, b: u8) -> usize
 }
 
 // The lines of an image, from the front of the output on; how many bytes they are.
-pub(crate) fn put_lines(table: &[u8], out: &mut [u8], a: u16, image: &[u8]) -> usize
+pub(crate) fn put_lines(table: &[u8; 256], out: &mut [u8], a: u16, image: &[u8]) -> usize
     requires { ⌜ TellsAll (now table) × (length (linesOf a (now image)) ≤ length (now out)) × (a + length (now image) ≤ 65536) ⌝ }
     ensures { λ r. ⌜ (r ≡ length (linesOf a (now (image .entry)))) × (now (out .exit) ≡ sets (now (out .entry)) 0 (linesOf a (now (image .entry)))) ⌝ }
 {

@@ -23,7 +23,8 @@ ghost use Rattle.calls.specs.Code.{Acts};
 
 // The record of an input, from the state before it.
 fn keep(m: Machine, journal: &mut [u16], count: u8, first: u16, old: u16) -> Place
-    ensures { λ r. ⌜ ringOf (now (journal .exit)) (r .next) (r .held) ≡ pushed (slots (now (journal .entry))) (recordWith (m .cpu) count first old) (ringOf (now (journal .entry)) (m .next) (m .held)) ⌝ }
+    ensures { λ r. ⌜ ringOf (now (journal .exit)) (r .next) (r .held)
+        ≡ pushed (slots (now (journal .entry))) (recordWith (m .cpu) count first old) (ringOf (now (journal .entry)) (m .next) (m .held)) ⌝ }
 {
     let c = m.cpu;
     let g = c.regs;

@@ -495,12 +495,11 @@ fn marks() -> [u8; 163]
     MARKS
 }
 
-// The kind of an opcode byte; 0 past the table's end.
-fn kind(table: &[u8], opcode: u8) -> u8
+// The kind of an opcode byte.
+fn kind(table: &[u8; 256], opcode: u8) -> u8
     ensures { λ r. ⌜ r ≡ getD (now (table .entry)) opcode 0 ⌝ }
 {
-    let i = opcode as usize;
-    if i < table.len() { table[i] } else { 0 }
+    table[opcode as usize]
 }
 
 // The operation of a kind.
@@ -544,7 +543,7 @@ fn operation(kind: u8) -> Op
 }
 
 // What an opcode byte does, by the table that is lent.
-pub fn decode(table: &[u8], opcode: u8) -> Op
+pub fn decode(table: &[u8; 256], opcode: u8) -> Op
     ensures { λ r. ⌜ r ≡ opIn (now (table .entry)) opcode ⌝ }
 {
     operation(kind(table, opcode))
@@ -637,7 +636,7 @@ fn name(kind: u8, opcode: u8) -> u64
 }
 
 // An opcode's mnemonic as one number, its first byte lowest, by the table that is lent; 0 where the opcode gives reason 2.
-pub fn mnemonic(table: &[u8], opcode: u8) -> u64
+pub fn mnemonic(table: &[u8; 256], opcode: u8) -> u64
     ensures { λ r. ⌜ r ≡ nameIn (now (table .entry)) opcode ⌝ }
 {
     name(kind(table, opcode), opcode)

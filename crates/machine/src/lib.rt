@@ -24,7 +24,8 @@ pub enum Call {
 
 // What a call does once the checks are passed.
 fn act(call: Call, m: Machine, ram: &mut [u8], journal: &mut [u16]) -> Reply
-    ensures { λ r. ⌜ (checkOf (worldOf m (now (ram .entry)) (now (journal .entry))) ≡ 0 → Acts (asked call) m (now (ram .entry)) (now (journal .entry)) r (now (ram .exit)) (now (journal .exit))) ⌝ }
+    ensures { λ r. ⌜ (checkOf (worldOf m (now (ram .entry)) (now (journal .entry))) ≡ 0
+        → Acts (asked call) m (now (ram .entry)) (now (journal .entry)) r (now (ram .exit)) (now (journal .exit))) ⌝ }
 {
     match call {
         Call::Step => run::step(m, ram, journal),

@@ -62,7 +62,8 @@ pub extern "C" fn mb50_set_register(
     number: u8,
     content: u16,
 ) -> u64
-    ensures { λ r. ⌜ Crosses (give (Input.setRegister number content)) (now (state .entry)) (now (ram .entry)) (now (journal .entry)) r (now (state .exit)) (now (ram .exit)) (now (journal .exit)) ⌝ }
+    ensures { λ r. ⌜ Crosses (give (Input.setRegister number content)) (now (state .entry)) (now (ram .entry)) (now (journal .entry))
+        r (now (state .exit)) (now (ram .exit)) (now (journal .exit)) ⌝ }
 {
     cross(Call::SetRegister(number, content), state, ram, journal)
 }

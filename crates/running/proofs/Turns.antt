@@ -1,5 +1,5 @@
 -- One recorded step from what its parts leave, and what it leaves of a run.
-use Prim.Native.Nat.{ℕ, _+_, _-_, _<_}
+use Prim.Native.Nat.{ℕ, _+_, _-_, _<_, _≤_}
 use mathlib.Core.Path.{_≡_, refl, sym, _∙_, ap}
 use mathlib.Core.Bool.{Bool, true, false, cond}
 use mathlib.Core.List.{List}
@@ -130,26 +130,34 @@ runs n w = ran machine (ring recordOf decoded) n w
 abbrev pub more : ℕ → ℕ → Answer Cpu Ring → Answer Cpu Ring
 more s n x = plus machine (ring recordOf decoded) s n x
 
--- a run under way: after so many steps and bus bytes the rest, from where it stands, gives what the whole gives
+-- a run under way: with so many steps of the budget left and after so many bus bytes the rest, from where it stands, gives what the whole gives
 abbrev pub Going : ℕ → Answer Cpu Ring → ℕ → ℕ → W → Type 0
-Going budget start n bus v = more n bus (runs (budget - n) v) ≡ start
+Going budget start left bus v = more (budget - left) bus (runs left v) ≡ start
 
-pub begin : (budget : ℕ) (v : W) → Going budget (runs budget v) 0 0 v
-begin budget v = sym (ran-start machine (ring recordOf decoded) budget v)
+pub begin : (budget : ℕ) (v : W) → Going budget (runs budget v) budget 0 v
+begin budget v =
+    let a : budget - budget ≡ 0 = omega arith in
+    let b : budget - 0 ≡ budget = omega arith in
+    rw a (rw b at (sym (ran-start machine (ring recordOf decoded) budget v)))
 
-module _ (budget n bus : ℕ) (start : Answer Cpu Ring) (v : W) (i : Going budget start n bus v) where
-  pub turn : (r : Recorded) (g′ k′ m′ ws′ : List ℕ) → v .box .cpu .board .halted ≡ false → n < budget
+module _ (budget left bus : ℕ) (start : Answer Cpu Ring) (v : W) (i : Going budget start left bus v) where
+  pub turn : (r : Recorded) (g′ k′ m′ ws′ : List ℕ) → v .box .cpu .board .halted ≡ false → 0 < left → left ≤ budget
       → turnAs r g′ k′ m′ ws′ ≡ turnOf v
-      → Going budget start (n + 1) (bus + r .bus) (standing (cpu g′ k′ (r .board)) (r .place) m′ ws′)
-  turn r g′ k′ m′ ws′ h l e =
+      → Going budget start (left - 1) (bus + r .bus) (standing (cpu g′ k′ (r .board)) (r .place) m′ ws′)
+  turn r g′ k′ m′ ws′ h l n e =
       let y = stepOf (v .box .cpu) (v .box .ram) in
-      ap (λ (t : Turn). more (n + 1) (bus + t .bus) (runs (budget - (n + 1)) (t .world))) e
-      ∙ sym (ran-more machine (ring recordOf decoded) budget n bus v y l (step-goes (v .box) h)) ∙ i
+      let a : budget - (budget - left + 1) ≡ left - 1 = omega (arith, l, n) in
+      let b : budget - left + 1 ≡ budget - (left - 1) = omega (arith, l, n) in
+      let d : budget - (budget - left) ≡ left = omega (arith, n) in
+      ap (λ (t : Turn). more (budget - (left - 1)) (bus + t .bus) (runs (left - 1) (t .world))) e
+      ∙ (rw (a, b, d) at (sym (ran-more machine (ring recordOf decoded) budget (budget - left) bus v y (omega (arith, l, n)) (step-goes (v .box) h)))) ∙ i
 
-  pub halts : v .box .cpu .board .halted ≡ true → start ≡ answers 0 n bus stopped v
-  halts h = sym i ∙ ran-stopped machine (ring recordOf decoded) (budget - n) 4 n bus v (step-stops (v .box) h)
+  pub halts : v .box .cpu .board .halted ≡ true → start ≡ answers 0 (budget - left) bus stopped v
+  halts h = sym i ∙ ran-stopped machine (ring recordOf decoded) left 4 (budget - left) bus v (step-stops (v .box) h)
 
-  pub ends : v .box .cpu .board .halted ≡ false → n ≡ budget → start ≡ answers 0 n bus spent v
+  pub ends : v .box .cpu .board .halted ≡ false → left ≡ 0 → start ≡ answers 0 budget bus spent v
   ends h e =
       let y = stepOf (v .box .cpu) (v .box .ram) in
-      sym i ∙ ran-done machine (ring recordOf decoded) budget n bus v y (omega (arith, e)) (step-goes (v .box) h)
+      let a : budget - left ≡ budget = omega (arith, e) in
+      let b : budget - budget ≡ left = omega (arith, e) in
+      (rw a at (sym i)) ∙ (rw b at (ran-done machine (ring recordOf decoded) budget budget bus v y (omega arith) (step-goes (v .box) h)))

@@ -27,8 +27,9 @@ fn note(journal: &mut [u16], slot: usize, count: u8, first: u16, old: u16)
 }
 
 // The record of the state before the step is pushed first, and what the step wrote goes in after it: so the record needs no copy of registers and CSRs.
+// The board is handed on part by part, as the run takes it: being 8 bytes, it would be packed into one number and taken apart again at each step.
 pub fn recorded_step(
-    table: &[u8],
+    table: &[u8; 256],
     regs: &mut [u16; 16],
     csrs: &mut [u16; 6],
     board: Board,
@@ -36,7 +37,8 @@ pub fn recorded_step(
     ram: &mut [u8],
     journal: &mut [u16],
 ) -> Recorded
-    ensures { λ r. ⌜ (TellsAll (now (table .entry)) → turnAs r (now (regs .exit)) (now (csrs .exit)) (now (ram .exit)) (now (journal .exit)) ≡ turnOf (standing (cpu (now (regs .entry)) (now (csrs .entry)) board) place (now (ram .entry)) (now (journal .entry)))) ⌝ }
+    ensures { λ r. ⌜ (TellsAll (now (table .entry)) → turnAs r (now (regs .exit)) (now (csrs .exit)) (now (ram .exit)) (now (journal .exit))
+        ≡ turnOf (standing (cpu (now (regs .entry)) (now (csrs .entry)) board) place (now (ram .entry)) (now (journal .entry)))) ⌝ }
 {
     let words = records::encode(*regs, *csrs, board, 0, 0, 0);
     let slot = place.next;
@@ -44,8 +46,12 @@ pub fn recorded_step(
     let q = step::step(table, regs, csrs, ram, board);
     note(journal, slot, q.count, q.first, q.old);
     let b = q.board;
+    let devices = b.devices;
     Recorded {
-        board: b,
+        board: Board {
+            devices,
+            halted: b.halted,
+        },
         place: after,
         count: q.count,
         first: q.first,

@@ -35,9 +35,9 @@ fn told(steps: u16, bus: u32, stop: Stop) -> Run
 }
 
 // Steps until the machine is halted or the budget used up. Registers and CSRs are lent and not copied, since a lone step's caller reads at once what
-// the step wrote.
+// the step wrote; the board's parts stay apart from step to step (`recorded_step` says why).
 fn advance(
-    table: &[u8],
+    table: &[u8; 256],
     regs: &mut [u16; 16],
     csrs: &mut [u16; 6],
     board: Board,
@@ -46,27 +46,33 @@ fn advance(
     journal: &mut [u16],
     budget: u16,
 ) -> Ended
-    ensures { λ r. ⌜ (TellsAll (now (table .entry)) → ran machine (ring recordOf decoded) budget (standing (cpu (now (regs .entry)) (now (csrs .entry)) board) place (now (ram .entry)) (now (journal .entry))) ≡ ranAs r (now (regs .exit)) (now (csrs .exit)) (now (ram .exit)) (now (journal .exit))) ⌝ }
+    ensures { λ r. ⌜ (TellsAll (now (table .entry))
+        → ran machine (ring recordOf decoded) budget (standing (cpu (now (regs .entry)) (now (csrs .entry)) board) place (now (ram .entry)) (now (journal .entry)))
+        ≡ ranAs r (now (regs .exit)) (now (csrs .exit)) (now (ram .exit)) (now (journal .exit))) ⌝ }
 {
-    let mut b = board;
+    let mut devices = board.devices;
+    let mut halted = board.halted;
     let mut at = place;
-    let mut steps: u16 = 0;
+    let mut left = budget;
     let mut bus: u32 = 0;
     let run = loop {
-        if b.halted {
-            break told(steps, bus, Stop::Halted);
+        if halted {
+            break told(budget - left, bus, Stop::Halted);
         }
-        if steps == budget {
-            break told(steps, bus, Stop::Budget);
+        if left == 0 {
+            break told(budget, bus, Stop::Budget);
         }
-        let r = recorded::recorded_step(table, regs, csrs, b, at, ram, journal);
-        b = r.board;
+        let before = Board { devices, halted };
+        let r = recorded::recorded_step(table, regs, csrs, before, at, ram, journal);
+        let b = r.board;
+        devices = b.devices;
+        halted = b.halted;
         at = r.place;
         bus = bus + r.bus as u32;
-        steps = steps + 1;
+        left = left - 1;
     };
     Ended {
-        board: b,
+        board: Board { devices, halted },
         place: at,
         run,
     }

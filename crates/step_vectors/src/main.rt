@@ -18,7 +18,7 @@ fn room() -> [u8; 65536]
 }
 
 // One instruction word from a state; RAM runs on from word to word.
-fn one_word(h: u64, table: &[u8], c: Cpu, ram: &mut [u8], word: u16) -> u64 {
+fn one_word(h: u64, table: &[u8; 256], c: Cpu, ram: &mut [u8], word: u16) -> u64 {
     let mut regs = c.regs;
     let mut csrs = c.csrs;
     let mut b = c.board;
@@ -28,7 +28,7 @@ fn one_word(h: u64, table: &[u8], c: Cpu, ram: &mut [u8], word: u16) -> u64 {
     digest::stepped(h, regs, csrs, q, ram)
 }
 
-fn every_word(table: &[u8], c: Cpu, ram: &mut [u8]) -> u64 {
+fn every_word(table: &[u8; 256], c: Cpu, ram: &mut [u8]) -> u64 {
     let mut h: u64 = 1;
     let mut left: u32 = 65536;
     while 0 < left {
@@ -38,7 +38,7 @@ fn every_word(table: &[u8], c: Cpu, ram: &mut [u8]) -> u64 {
     digest::absorb_bytes(h, ram)
 }
 
-fn one_state(table: &[u8], input: &[u8], at: usize, buffer: &mut [u8]) -> u64 {
+fn one_state(table: &[u8; 256], input: &[u8], at: usize, buffer: &mut [u8]) -> u64 {
     let size = states::ram_length(input, at, buffer.len());
     let from = states::fill_byte(input, at);
     states::fill(&mut buffer[0..size], from);
@@ -47,7 +47,7 @@ fn one_state(table: &[u8], input: &[u8], at: usize, buffer: &mut [u8]) -> u64 {
 }
 
 // A line for each state.
-fn run(table: &[u8], input: &[u8], buffer: &mut [u8]) {
+fn run(table: &[u8; 256], input: &[u8], buffer: &mut [u8]) {
     let mut at = 0;
     while at < input.len() {
         let h = one_state(table, input, at, buffer);

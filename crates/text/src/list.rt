@@ -113,7 +113,7 @@ fn put3(out: &mut [u8], m: u64, d: u64, s: u64) -> Listed
 
 // The same as `list`, by a table that is lent: making one costs more than a line. Another table's names could be longer than the room that is made for
 // them, so it asks for the one that tells the rules.
-pub fn list_in(table: &[u8], word: u16, out: &mut [u8]) -> Listed
+pub fn list_in(table: &[u8; 256], word: u16, out: &mut [u8]) -> Listed
     requires { ⌜ TellsAll (now table) ⌝ }
     ensures { λ r. ⌜ listedAs r ≡ listSays word (length (now (out .entry))) ⌝ }
     ensures { λ r. ⌜ now (out .exit) ≡ listLeaves word (now (out .entry)) ⌝ }

@@ -91,7 +91,7 @@ fn label(op: Op) -> u64 {
     }
 }
 
-fn opcode_row(table: &[u8], code: u8) {
+fn opcode_row(table: &[u8; 256], code: u8) {
     report::hex(code as u64, 2);
     report::space();
     let key = opcode::mnemonic(table, code);
@@ -105,7 +105,7 @@ fn opcode_row(table: &[u8], code: u8) {
     report::end();
 }
 
-fn opcode_rows(table: &[u8]) {
+fn opcode_rows(table: &[u8; 256]) {
     for code in 0..=255u8 {
         opcode_row(table, code);
     }
@@ -153,7 +153,7 @@ fn digest(op: Op, d: u16, words: &[u16]) -> u64 {
     digest
 }
 
-fn digest_row(table: &[u8], code: u8, op: Op, d: u16, words: &[u16]) {
+fn digest_row(table: &[u8; 256], code: u8, op: Op, d: u16, words: &[u16]) {
     report::name(opcode::mnemonic(table, code));
     report::space();
     report::hex(d as u64, 4);
@@ -162,7 +162,7 @@ fn digest_row(table: &[u8], code: u8, op: Op, d: u16, words: &[u16]) {
     report::end();
 }
 
-fn digest_rows(table: &[u8], code: u8, words: &[u16]) {
+fn digest_rows(table: &[u8; 256], code: u8, words: &[u16]) {
     let op = opcode::decode(table, code);
     let mut i = 0;
     while i < words.len() {
@@ -171,7 +171,7 @@ fn digest_rows(table: &[u8], code: u8, words: &[u16]) {
     }
 }
 
-fn edge_row(table: &[u8], code: u8, d: u16, s: u16) {
+fn edge_row(table: &[u8; 256], code: u8, d: u16, s: u16) {
     let a = answer(opcode::decode(table, code), d, s);
     report::name(opcode::mnemonic(table, code));
     report::space();
@@ -185,7 +185,7 @@ fn edge_row(table: &[u8], code: u8, d: u16, s: u16) {
     report::end();
 }
 
-fn edges_of(table: &[u8], code: u8, d: u16, edges: &[u16]) {
+fn edges_of(table: &[u8; 256], code: u8, d: u16, edges: &[u16]) {
     let mut i = 0;
     while i < edges.len() {
         edge_row(table, code, d, edges[i]);
@@ -193,7 +193,7 @@ fn edges_of(table: &[u8], code: u8, d: u16, edges: &[u16]) {
     }
 }
 
-fn edge_rows(table: &[u8], code: u8, edges: &[u16]) {
+fn edge_rows(table: &[u8; 256], code: u8, edges: &[u16]) {
     let mut i = 0;
     while i < edges.len() {
         edges_of(table, code, edges[i], edges);
@@ -221,13 +221,13 @@ const UNIT: [u8; 16] = [
     0x1b,
 ];
 
-fn all_digests(table: &[u8], words: &[u16]) {
+fn all_digests(table: &[u8; 256], words: &[u16]) {
     for k in 0..16usize {
         digest_rows(table, UNIT[k], words);
     }
 }
 
-fn all_edges(table: &[u8], edges: &[u16]) {
+fn all_edges(table: &[u8; 256], edges: &[u16]) {
     for k in 0..16usize {
         edge_rows(table, UNIT[k], edges);
     }

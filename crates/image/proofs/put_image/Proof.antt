@@ -35,6 +35,6 @@ pub put-image-spec : {M : Type 1} → statement M
 put-image-spec =
     tie.close
     (tie.spec
-    (λ c κs. search needs) (λ c. search needs) (λ c κs. search needs) returns (λ c. search needs)
+    (λ c κs. search needs) (λ c κs. search needs) returns
     (λ c κs. let i = c .before .before in let t = i .before .before .before in (t .table .ensures, room i, t .before .before .before .pre))
     (λ c. search needs) returns-2)

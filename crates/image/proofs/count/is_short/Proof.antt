@@ -11,9 +11,9 @@ use Rattle.image.proofs.count.is_short.Tie as tie
 
 returns : tie.Need-returns
 returns c =
-    let c3 = c .before .before .before in let a = c3 .args in
+    let c2 = c .before .before in let a = c2 .args in
     let s = now (a .image) in
-    let l = lines-room 0 s (λ i. omega (arith, c .before .shared-slice-known2 .given i)) in
+    let l = lines-room 0 s (λ i. omega (arith, c .before .shared-slice-known .given i)) in
     sym (le-ltb (a .room) (length (linesOf 0 s)) (omega (arith, c .if1 .taken)))
 
 pub is-short-spec : {M : Type 1} → statement M

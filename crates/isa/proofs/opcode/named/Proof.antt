@@ -11,8 +11,7 @@ use Rattle.isa.proofs.opcode.named.Tie as tie
 
 returns : tie.Need-returns
 returns c =
-    let c3 = c .before .before .before in
-    let t = c3 in
+    let t = c .before .before .before in
     let l = t .before in
     let k = l .before in
     let w = now (k .before .before .args .name) in
@@ -22,8 +21,7 @@ returns c =
 
 returns-2 : tie.Need-returns-2
 returns-2 c =
-    let c3 = c .before .before .before in
-    let t = c3 in
+    let t = c .before .before .before in
     let l = t .before in
     let k = l .before in
     let w = now (k .before .before .args .name) in
@@ -35,4 +33,4 @@ pub named-spec : {M : Type 1} → statement M
 named-spec =
     tie.close
     (tie.spec
-    (λ c κs. search needs) (λ c κs. search needs) (λ c κs. search needs) (λ c. search needs) (λ c κs. search needs) returns returns-2)
+    (λ c κs. search needs) (λ c κs. search needs) (λ c κs. search needs) (λ c κs. search needs) returns returns-2)

@@ -6,11 +6,11 @@ use Rattle.running.proofs.recorded.recorded_step.Tie as tie
 
 returns : tie.Need-returns
 returns c tells =
-    let c3 = c .before .before .before in let c7 = c3 .before .before .before .before in
-    let c13 = c7 .before .before .before .before .before .before in let c15 = c13 .before .before in
-    let c21 = c15 .before .before .before .before .before .before in let a = c21 .args in
-    turned (now (a .regs)) (now (a .csrs)) (a .board) (now (a .ram)) (now (a .journal)) (a .place) (c7 .step .result) (c13 .push .result) _ _ _ _ _ _
-    (c7 .step .ensures tells) (c15 .encode .ensures) (c13 .push .ensures) (c3 .note .ensures)
+    let c4 = c .before .before .before .before in let c8 = c4 .before .before .before .before in
+    let c14 = c8 .before .before .before .before .before .before in let c16 = c14 .before .before in
+    let c21 = c16 .before .before .before .before .before in let a = c21 .args in
+    turned (now (a .regs)) (now (a .csrs)) (a .board) (now (a .ram)) (now (a .journal)) (a .place) (c8 .step .result) (c14 .push .result) _ _ _ _ _ _
+    (c8 .step .ensures tells) (c16 .encode .ensures) (c14 .push .ensures) (c4 .note .ensures)
 
 pub recorded-step-spec : {M : Type 1} → statement M
 recorded-step-spec =
