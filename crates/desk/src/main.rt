@@ -1,29 +1,15 @@
 // The desk: MB50's debugger on the laptop, over the proved machine. It reads commands from standard input, a line each.
-mod arguments;
-mod changes;
-mod code;
-mod dumps;
-mod help;
-mod images;
-mod inputs;
-mod lines;
-mod outcomes;
-mod paths;
 mod perform;
-mod refusals;
-mod registers;
-mod rows;
 mod scripts;
 mod state;
-mod status;
-mod steps;
-mod stores;
-mod texts;
-mod values;
 
-use arguments::Settings;
+use console::arguments;
+use console::arguments::Settings;
+use console::lines;
+use console::lines::Line;
+use console::rows;
 use libc::STDERR_FILENO;
-use lines::Line;
+use placing::images;
 use state::Desk;
 ghost use mathlib.Core.Path.{_≡_};
 ghost use lib.ListN.{length};

@@ -1,47 +1,33 @@
 // One command.
-use crate::code;
-use crate::dumps;
-use crate::dumps::Form;
-use crate::help;
-use crate::images;
-use crate::inputs;
-use crate::registers;
 use crate::scripts;
+use crate::state;
 use crate::state::Desk;
-use crate::steps;
-use crate::stores;
-use crate::values;
-use commands::names;
-use commands::names::Command;
-use commands::names::Found;
-use commands::words;
-use machine::Call;
+use bus::state::Devices;
+use calls::state::Machine;
+use console::commands;
+use console::commands::Found;
+use console::rows;
+use console::values;
+use console::words;
+use operating::outcomes::Outcome;
+use panel::changes;
+use panel::dumps;
+use panel::dumps::Form;
 
-fn form(is_words: bool, is_decimal: bool) -> Form {
-    Form {
-        is_words,
-        is_decimal,
-    }
+fn devices(m: Machine) -> Devices {
+    let c = m.cpu;
+    let b = c.board;
+    b.devices
 }
 
-// The commands that change nothing of the machine.
-fn look(d: Desk, c: Command, line: &[u8], at: usize, ram: &[u8], slots: usize) -> Desk {
-    match c {
-        Command::Csr => registers::csr(d, line, at),
-        Command::List => code::list(d, line, at, ram),
-        Command::Save => images::save(line, at, ram),
-        Command::Help => help::help(line, at),
-        Command::Brief => help::brief(line, at),
-        Command::Dump => return dumps::dump(d, line, at, ram, form(false, false)),
-        Command::DumpDecimal => return dumps::dump(d, line, at, ram, form(false, true)),
-        Command::DumpWords => return dumps::dump(d, line, at, ram, form(true, false)),
-        Command::DumpWordsDecimal => return dumps::dump(d, line, at, ram, form(true, true)),
-        Command::Do => return scripts::follow(d, line, at),
-        Command::History => return scripts::history(d, line, at, slots),
-        Command::Quit => return quit(d, line, at),
-        _ => {}
-    }
-    d
+fn dumped(d: Desk, is_words: bool, is_decimal: bool, line: &[u8], at: usize, ram: &[u8]) -> Desk {
+    let f = Form {
+        is_words,
+        is_decimal,
+    };
+    let m = d.machine;
+    let last = d.dump;
+    state::with_dump(d, dumps::dump(last, f, devices(m), ram, line, at))
 }
 
 fn quit(d: Desk, line: &[u8], at: usize) -> Desk {
@@ -52,64 +38,58 @@ fn quit(d: Desk, line: &[u8], at: usize) -> Desk {
     e
 }
 
-// The inputs that come from outside the program.
-fn signal(
+// The commands of the desk itself.
+fn tend(letter: u8, d: Desk, line: &[u8], at: usize, ram: &[u8], slots: usize) -> Desk {
+    match letter {
+        b'd' => dumped(d, false, false, line, at, ram),
+        b'e' => dumped(d, false, true, line, at, ram),
+        b'w' => dumped(d, true, false, line, at, ram),
+        b'W' => dumped(d, true, true, line, at, ram),
+        b'D' => scripts::follow(d, line, at),
+        b'H' => scripts::history(d, line, at, slots),
+        b'q' => quit(d, line, at),
+        _ => d,
+    }
+}
+
+// What a command on the machine leaves: shown where it is one that shows it; the copy of the memory is the memory again.
+fn settled(d: Desk, o: Outcome, ram: &[u8], old: &mut [u8]) -> Desk {
+    let a = d.machine;
+    let b = o.machine;
+    if o.is_shown {
+        changes::show(a, b, ram, old);
+        return state::with_machine(d, b);
+    }
+    rows::put_all(old, 0, ram);
+    state::with_machine(d, b)
+}
+
+fn operated(
+    letter: u8,
     d: Desk,
-    c: Command,
     line: &[u8],
     at: usize,
     ram: &mut [u8],
     old: &mut [u8],
     journal: &mut [u16],
 ) -> Desk {
-    match c {
-        Command::Key => inputs::key(d, line, at, ram, old, journal),
-        Command::Reset => inputs::lone(d, Call::Reset, line, at, ram, old, journal),
-        Command::Sent => inputs::lone(d, Call::Sent, line, at, ram, old, journal),
-        _ => inputs::tick(d, line, at, ram, old, journal),
-    }
+    let m = d.machine;
+    let o = hand::operate(letter, m, line, at, ram, old, journal);
+    settled(d, o, ram, old)
 }
 
-// The commands that write into memory.
-fn store(
-    d: Desk,
-    c: Command,
-    line: &[u8],
-    at: usize,
-    ram: &mut [u8],
-    old: &mut [u8],
-    journal: &mut [u16],
-) -> Desk {
-    match c {
-        Command::Assemble => code::assembled(d, line, at, ram, old, journal),
-        Command::Load => images::load(d, line, at, ram, old, journal),
-        _ => stores::memset(d, line, at, ram, old, journal),
-    }
-}
-
-// A command of which the line goes on at a place.
+// The command of a row's letter, of which the line goes on at a place. A letter has one arm, in `hand` or in `tend`, and goes through the others as it came.
 fn obey(
+    letter: u8,
     d: Desk,
-    c: Command,
     line: &[u8],
     at: usize,
     ram: &mut [u8],
     old: &mut [u8],
     journal: &mut [u16],
 ) -> Desk {
-    match c {
-        Command::Assemble | Command::Load | Command::Memset => {
-            store(d, c, line, at, ram, old, journal)
-        }
-        Command::Key | Command::Reset | Command::Sent | Command::Tick => {
-            signal(d, c, line, at, ram, old, journal)
-        }
-        Command::Back => steps::step_back(d, line, at, ram, old, journal),
-        Command::Execute => steps::execute(d, line, at, ram, old, journal),
-        Command::Register => registers::register(d, line, at, ram, old, journal),
-        Command::Step => steps::step(d, line, at, ram, old, journal),
-        _ => look(d, c, line, at, ram, journal.len() / 32),
-    }
+    let e = operated(letter, d, line, at, ram, old, journal);
+    tend(letter, e, line, at, ram, journal.len() / 32)
 }
 
 // A line: a command, or nothing, or a remark that begins with #.
@@ -123,11 +103,11 @@ pub fn perform(d: Desk, line: &[u8], ram: &mut [u8], old: &mut [u8], journal: &m
     if words::byte_at(line, from) == b'#' {
         return d;
     }
-    let f = names::find(&line[from..to]);
+    let f = commands::find(&line[from..to]);
     match f {
-        Found::Is(c) => obey(d, c, line, to, ram, old, journal),
+        Found::Is(letter) => obey(letter, d, line, to, ram, old, journal),
         Found::Unknown | Found::Ambiguous | Found::Break => {
-            help::unfound(f, &line[from..to]);
+            commands::unfound(f, &line[from..to]);
             d
         }
     }

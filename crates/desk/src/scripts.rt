@@ -1,36 +1,31 @@
 // do and history: commands from a file, and into one.
-use crate::paths;
 use crate::state;
 use crate::state::Desk;
-use crate::values;
-use commands::words;
+use console::files;
+use console::paths;
+use console::values;
+use console::words;
 use libc::SEEK_END;
 use libc::SEEK_SET;
 
 // Commands come from the file until it ends; then they come from where this one came from.
 fn entered(d: Desk, path: &[u8]) -> Desk {
-    let file = os::open_read(path);
+    let file = files::open(path);
     if file < 0 {
-        values::complain(b"the file cannot be opened", path);
         return d;
     }
-    if !is_readable(file) {
-        values::complain(b"the file is empty or cannot be read", path);
-        libc::close(file);
+    if is_empty(file) {
+        files::empty(file, path);
         return d;
     }
     state::entered(d, file)
 }
 
-// Whether there is a byte to read. Where that can be told only by reading, as of a pipe, there is one.
-fn is_readable(file: i32) -> bool {
-    let mut none = [0u8; 1];
-    if libc::read(file, &mut none[0..0]) < 0 {
-        return false;
-    }
+// Whether there is no byte to read. Where that can be told only by reading, as of a pipe, there is one.
+fn is_empty(file: i32) -> bool {
     let size = libc::lseek(file, 0, SEEK_END);
     libc::lseek(file, 0, SEEK_SET);
-    size != 0
+    size == 0
 }
 
 // do FILE
@@ -77,7 +72,7 @@ fn stopped(d: Desk) -> Desk {
 fn recorded(d: Desk, path: &[u8]) -> Desk {
     let file = open_log(path);
     if file < 0 {
-        values::complain(b"the file cannot be opened for writing", path);
+        files::unopened(path);
         return d;
     }
     report::text(b"commands are recorded in ");

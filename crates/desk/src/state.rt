@@ -1,12 +1,11 @@
 // What stays from command to command, beside the memory and the journal.
 use calls::state::Machine;
 use libc::STDIN_FILENO;
+use panel::dumps::Spot;
 
 pub struct Desk {
     pub machine: Machine,
-    // Where the next dump starts, and how many bytes it shows.
-    pub dump_at: u16,
-    pub dump_size: usize,
+    pub dump: Spot,
     // The file that commands are recorded in, or -1.
     pub log: i32,
     // The command files that are open, the outermost first.
@@ -20,8 +19,7 @@ pub fn opened() -> Desk {
     let machine = calls::state::start();
     Desk {
         machine,
-        dump_at: 0,
-        dump_size: 16,
+        dump: Spot { at: 0, size: 16 },
         log: -1,
         files: [-1; 8],
         depth: 0,
@@ -36,10 +34,9 @@ pub fn with_machine(d: Desk, m: Machine) -> Desk {
     e
 }
 
-pub fn with_dump(d: Desk, at: u16, size: usize) -> Desk {
+pub fn with_dump(d: Desk, dump: Spot) -> Desk {
     let mut e = d;
-    e.dump_at = at;
-    e.dump_size = size;
+    e.dump = dump;
     e
 }
 

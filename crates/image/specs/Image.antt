@@ -4,6 +4,7 @@ use mathlib.Core.Bool.{Bool, cond, _&&_}
 use mathlib.Core.List.{List, [], _∷_, _++_}
 use lib.Dec.{eqb, leb, ltb}
 use lib.ListN.{length, getD, drop}
+unfoldable pub use Rattle.lexis.specs.Letters.{hexValue}
 use Rattle.isa.specs.Names.{bytes}
 use Rattle.isa.specs.Opcode.{givesReason2}
 use Rattle.text.specs.Answer.{Answer, accepted, refused}
@@ -40,11 +41,6 @@ abbrev pub linesOf : ℕ → List ℕ → List ℕ
 linesOf a [] = []
 linesOf a (b ∷ []) = lastLine a b
 linesOf a (b ∷ (c ∷ bs)) = pairLine a b c ++ linesOf (a + 2) bs
-
--- a hexadecimal digit of either case; 16 where it is none
-unfoldable pub hexValue : ℕ → ℕ
-hexValue b =
-    cond (leb 48 b && leb b 57) (b - 48) (cond (leb 97 b && leb b 102) (b - 87) (cond (leb 65 b && leb b 70) (b - 55) 16))
 
 abbrev pub isHex : ℕ → Bool
 isHex b = leb (hexValue b) 15

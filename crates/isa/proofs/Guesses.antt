@@ -13,7 +13,7 @@ use Rattle.isa.specs.Opcode.{meaning, images, mnemonics, opcodeNamed}
 use Rattle.isa.specs.Code.{pack, keyOf, fixedKeyed, numberNear, keyAt, markOf, Marked, CanOnlyBe}
 use Rattle.isa.specs.declared.register.FoundCsr.the-variants as FoundCsr
 use Rattle.isa.specs.declared.opcode.FoundOpcode.the-variants as FoundOpcode
-use Rattle.isa.proofs.Lists.{images-at, agree}
+use Rattle.lexis.proofs.Lists.{images-at, agree}
 use Rattle.isa.proofs.Keyed.{Bytes, lower-bytes, allTidy, key-some, seek-place, found, missed}
 
 -- ---- registers and CSRs: by the last digit

@@ -2,15 +2,8 @@
 use Prim.Native.Nat.{ℕ}
 use mathlib.Core.Bool.{Bool, true, false, cond, _&&_, _||_}
 use mathlib.Core.List.{List, [], _∷_}
-use lib.Dec.{eqb, leb}
-
--- "spaces and tabs"
-unfoldable pub blank : ℕ → Bool
-blank b = eqb b 32 || eqb b 9
-
--- "letters, digits or underscores"
-unfoldable pub wordy : ℕ → Bool
-wordy b = (leb 97 b && leb b 122) || (leb 65 b && leb b 90) || (leb 48 b && leb b 57) || eqb b 95
+use lib.Dec.{eqb}
+unfoldable pub use Rattle.lexis.specs.Letters.{blank, wordy}
 
 -- the bytes at the front that pass a test, and what stands after them
 abbrev pub run : (ℕ → Bool) → List ℕ → List ℕ

@@ -1,4 +1,5 @@
 // The words of a line.
+use lexis::letters;
 ghost use mathlib.Core.Path.{_≡_};
 ghost use Prim.Native.Nat.{_+_, _≤_};
 ghost use lib.ListN.{length, drop};
@@ -18,46 +19,6 @@ pub enum Split {
     NoWords,
 }
 
-fn is_blank(b: u8) -> bool
-    ensures { λ r. ⌜ r ≡ blank b ⌝ }
-{
-    if b == 32 {
-        return true;
-    }
-    b == 9
-}
-
-// By the ends of the stretches of letters, digits and the underscore; small letters first, since most bytes of words are.
-fn is_wordy(b: u8) -> bool
-    ensures { λ r. ⌜ r ≡ wordy b ⌝ }
-{
-    if 122 < b {
-        return false;
-    }
-    if 96 < b {
-        return true;
-    }
-    if b < 48 {
-        return false;
-    }
-    if b < 58 {
-        return true;
-    }
-    if b < 65 {
-        return false;
-    }
-    if b < 91 {
-        return true;
-    }
-    if b < 95 {
-        return false;
-    }
-    if b < 96 {
-        return true;
-    }
-    false
-}
-
 // Past the blanks that stand at `at`.
 fn skip_blanks(line: &[u8], at: usize) -> usize
     requires { ⌜ at ≤ length (now line) ⌝ }
@@ -65,7 +26,7 @@ fn skip_blanks(line: &[u8], at: usize) -> usize
 {
     let mut i = at;
     while i < line.len() {
-        if !is_blank(line[i]) {
+        if !letters::is_blank(line[i]) {
             return i;
         }
         i += 1;
@@ -89,7 +50,7 @@ pub fn match_line(line: &[u8]) -> Split
         if line.len() <= at {
             break Split::NoWords;
         }
-        if !is_wordy(line[at]) {
+        if !letters::is_wordy(line[at]) {
             break Split::NoWords;
         }
         at += 1;
@@ -100,7 +61,7 @@ pub fn match_line(line: &[u8]) -> Split
                 }
                 break;
             }
-            if !is_wordy(line[at]) {
+            if !letters::is_wordy(line[at]) {
                 break;
             }
             at += 1;

@@ -20,8 +20,8 @@ read-header-spec =
     tie.close
     (tie.spec
     (λ c. short-header _ (c .if1 .taken)) (λ c. search needs) (λ c. open-header _ (c .if2 .taken)) (λ c. search needs)
-    (λ c κs. search needs) (λ c. search needs) (λ c κs. search needs) (λ c. search needs) (λ c κs. search needs) (λ c. search needs)
-    (λ c κs. search needs)
+    (λ c κs. search needs) (λ c. search needs) (λ c. search needs) (λ c κs. search needs) (λ c. search needs) (λ c. search needs)
+    (λ c κs. search needs) (λ c. search needs) (λ c. search needs) (λ c κs. search needs) (λ c. search needs)
     (λ c. no-digit _ 0 _ (omega arith) (c .before .before .before .before .before .before .before .hex-value .ensures .0) (c .if3 .taken))
     (λ c. no-digit _ 1 _ (omega arith) (c .before .before .before .before .before .before .hex-value2 .ensures .0) (c .if4 .taken))
     (λ c. no-digit _ 2 _ (omega arith) (c .before .before .before .before .before .hex-value3 .ensures .0) (c .if5 .taken))

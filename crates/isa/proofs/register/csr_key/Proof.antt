@@ -10,7 +10,7 @@ use lib.ListN.{List·getD-eq-default}
 use Rattle.isa.specs.Names.{csrNames, registerName, csrName}
 use Rattle.isa.specs.Opcode.{images}
 use Rattle.isa.specs.Code.{pack}
-use Rattle.isa.proofs.Lists.{agree, ranged}
+use Rattle.lexis.proofs.Lists.{agree, ranged}
 use borrow.Author.Needs.{needs}
 use Rattle.isa.proofs.register.csr_key.Statement.{statement}
 use Rattle.isa.proofs.register.csr_key.Tie as tie

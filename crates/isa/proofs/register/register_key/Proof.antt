@@ -10,7 +10,7 @@ use lib.ListN.{List·getD-eq-default}
 use Rattle.isa.specs.Names.{registerNames, registerName}
 use Rattle.isa.specs.Opcode.{images}
 use Rattle.isa.specs.Code.{pack}
-use Rattle.isa.proofs.Lists.{agree}
+use Rattle.lexis.proofs.Lists.{agree}
 use borrow.Author.Needs.{needs}
 use Rattle.isa.proofs.register.register_key.Statement.{statement}
 use Rattle.isa.proofs.register.register_key.Tie as tie

@@ -1,0 +1,4 @@
+pub mod Lists
+pub mod Reading
+pub mod Figuring
+pub mod Characters

@@ -1,0 +1,5 @@
+pub mod Lists
+pub mod Letters
+pub mod Quoted
+pub mod Numbers
+pub mod Code

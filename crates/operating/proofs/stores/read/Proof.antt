@@ -1,0 +1,21 @@
+use Prim.Native.Nat.{_-_}
+use mathlib.Core.Path.{_≡_}
+use lib.ListN.{length}
+use borrow.Author.Needs.{needs}
+use Rattle.operating.proofs.stores.read.Statement.{statement}
+use Rattle.operating.proofs.stores.read.Tie as tie
+
+abbrev Inv-loop : tie.InvT-loop
+Inv-loop line at out₀ words-too n₀ i₀ out n i = length out ≡ length out₀
+
+abbrev μ-loop : tie.MeasureT-loop
+μ-loop line at out₀ words-too n₀ i₀ out n i = length line - i
+
+pub read-spec : {M : Type 1} → statement M
+read-spec =
+    tie.close
+    (tie.spec
+    Inv-loop μ-loop (λ c κs. search needs) (λ c. search needs) (λ c κs. search needs) (λ c. search needs) (λ c. search needs)
+    (λ c κs. search needs) (λ c. search needs) (λ c. search needs) (λ c. search needs) (λ c. search needs) (λ c. search needs)
+    (λ c κs. search needs) (λ c. search needs) (λ c. search needs) (λ c. search needs) (λ c. search needs) (λ c. search needs)
+    (λ c. search needs) (λ c. search needs) (λ c. search needs) (λ c. search needs) (λ c. search needs))

@@ -1,0 +1,17 @@
+use Prim.Native.Nat.{_-_, _≤_}
+use borrow.Author.Needs.{needs}
+use Rattle.panel.proofs.registers.all_registers.Statement.{statement}
+use Rattle.panel.proofs.registers.all_registers.Tie as tie
+
+abbrev Inv-loop : tie.InvT-loop
+Inv-loop regs i₀ i = i ≤ 16
+
+abbrev μ-loop : tie.MeasureT-loop
+μ-loop regs i₀ i = 16 - i
+
+pub all-registers-spec : {M : Type 1} → statement M
+all-registers-spec =
+    tie.close
+    (tie.spec
+    Inv-loop μ-loop (λ c. search needs) (λ c. search needs) (λ c. search needs) (λ c κs. search needs) (λ c κs. search needs)
+    (λ c. search needs) (λ c. search needs) (λ c. search needs) (λ c. search needs))

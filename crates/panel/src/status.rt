@@ -1,0 +1,104 @@
+// The line after step, back and execute: where the machine stands.
+use bus::address;
+use bus::state::Cpu;
+use calls::state::Machine;
+use isa::register;
+use text::list;
+use text::list::Listed;
+
+fn flag(bit: u16, letter: u8) -> u8 {
+    if bit % 2 == 1 { letter } else { b'-' }
+}
+
+// The flags by their letters.
+pub fn flags(f: u16) {
+    let marks = [
+        flag(f / 256, b'I'),
+        flag(f / 512, b'E'),
+        flag(f / 1024, b'C'),
+        flag(f / 2048, b'K'),
+        flag(f / 16, b'z'),
+        flag(f / 32, b'c'),
+        flag(f / 64, b's'),
+        flag(f / 128, b'o'),
+        flag(f / 8, b'3'),
+        flag(f / 4, b'2'),
+        flag(f / 2, b'1'),
+        flag(f, b'0'),
+    ];
+    report::text(&marks);
+}
+
+// A word as an instruction; a question mark where its opcode gives reason 2.
+pub fn instruction(w: u16) {
+    let mut room = [0u8; 16];
+    let l = list::list(w, &mut room);
+    match l {
+        Listed::Text(n) => {
+            if n <= 16 {
+                report::text(&room[0..n]);
+            }
+        }
+        Listed::Reason2 | Listed::NoRoom => report::text(b"?"),
+    }
+}
+
+// The address, the instruction there, and the flags.
+pub fn place(c: Cpu, ram: &[u8]) {
+    let regs = c.regs;
+    let b = c.board;
+    let v = b.devices;
+    let pc = regs[register::PC];
+    report::text(b"pc ");
+    report::hex(pc as u64, 4);
+    report::text(b" | ");
+    instruction(address::read_word(v, ram, pc));
+    report::text(b" | ");
+    flags(regs[register::F]);
+    report::text(b" | ");
+}
+
+pub fn count(n: u64, one: &[u8], more: &[u8]) {
+    report::decimal(n);
+    report::space();
+    if n == 1 {
+        report::text(one);
+    } else {
+        report::text(more);
+    }
+}
+
+pub fn held(m: Machine) {
+    report::text(b", ");
+    count(m.held as u64, b"record held\n", b"records held\n");
+}
+
+// How many of those asked for.
+fn count_of(n: u64, of: u64, one: &[u8], more: &[u8]) {
+    if n < of {
+        report::decimal(n);
+        report::text(b" of ");
+        count(of, one, more);
+        return;
+    }
+    count(n, one, more);
+}
+
+// After steps: how many, of how many that were asked for; their bus bytes, and why they stopped.
+pub fn after_steps(m: Machine, ram: &[u8], steps: u64, of: u64, bus: u64, cause: &[u8]) {
+    let c = m.cpu;
+    place(c, ram);
+    count_of(steps, of, b"step", b"steps");
+    report::text(b", ");
+    count(bus, b"bus byte", b"bus bytes");
+    report::text(b", ");
+    report::text(cause);
+    held(m);
+}
+
+pub fn after_back(m: Machine, ram: &[u8], steps: u64, of: u64) {
+    let c = m.cpu;
+    place(c, ram);
+    count_of(steps, of, b"step back", b"steps back");
+    held(m);
+}

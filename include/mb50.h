@@ -1,0 +1,43 @@
+/* The calls of libmb50.a: the MB5016 desk machine and the text of its instructions. docs/BOUNDARY.md describes them, with the refusals' numbers.
+ *
+ * state       32 words: 0-15 r0-r15 (13 ia, 14 f, 15 pc); 16-21 csr0-csr5; 22 clock; 23 RXD + 256*TXD; 24 R + 2*T + 4*halted; 25 next slot;
+ *             26 records held; 27-31 not read, written as 0. The starting state is all 0 but word 24, which is 2.
+ * ram, n      n bytes of RAM, at most 65504
+ * journal, m  m words: slots of 32 words, at most 1024 of them, or none
+ * result      bits 0-15: the refusal's number, 0 if accepted; 16-31: the steps of a run; 32-55: bus bytes of a step or a run; 56-63: a run's cause,
+ *             0 budget used up, 1 halted. On a refusal all else is 0, and state, RAM and journal stay as given.
+ *
+ * A caller owes: no pointer is null, also not that of no elements; each points to as many elements as the length after it says, and state to 32;
+ * what is lent in one call does not overlap; words are aligned to 2 bytes; nobody else reads or writes what is lent until the call has returned.
+ * Any values may stand there. Nothing is kept between calls. */
+#ifndef MB50_H
+#define MB50_H
+
+#include <stddef.h>
+#include <stdint.h>
+
+#ifdef __cplusplus
+extern "C" {
+#endif
+
+uint64_t mb50_step(uint16_t *state, uint8_t *ram, size_t n, uint16_t *journal, size_t m);
+uint64_t mb50_tick(uint16_t *state, uint8_t *ram, size_t n, uint16_t *journal, size_t m);
+uint64_t mb50_receive(uint16_t *state, uint8_t *ram, size_t n, uint16_t *journal, size_t m, uint8_t byte);
+uint64_t mb50_sent(uint16_t *state, uint8_t *ram, size_t n, uint16_t *journal, size_t m);
+uint64_t mb50_set_register(uint16_t *state, uint8_t *ram, size_t n, uint16_t *journal, size_t m, uint8_t number, uint16_t content);
+uint64_t mb50_poke(uint16_t *state, uint8_t *ram, size_t n, uint16_t *journal, size_t m, uint16_t address, uint8_t byte);
+uint64_t mb50_reset(uint16_t *state, uint8_t *ram, size_t n, uint16_t *journal, size_t m);
+uint64_t mb50_run(uint16_t *state, uint8_t *ram, size_t n, uint16_t *journal, size_t m, uint16_t budget);
+uint64_t mb50_step_back(uint16_t *state, uint8_t *ram, size_t n, uint16_t *journal, size_t m);
+
+/* Writes an instruction's text to out, which has n bytes; bits 16-31 of the result are the text's length. 16 bytes are enough for any. */
+uint64_t mb50_list(uint16_t word, uint8_t *out, size_t n);
+
+/* Reads the instruction in a line of n bytes; bits 16-31 of the result are the word. */
+uint64_t mb50_assemble(const uint8_t *line, size_t n);
+
+#ifdef __cplusplus
+}
+#endif
+
+#endif
