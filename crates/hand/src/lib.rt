@@ -1,4 +1,4 @@
-// The commands on the machine, by their rows' letters: one arm for each. In parts, since one match of all takes more memory to prove than all of these.
+// The commands on the machine, by their rows' letters: one arm for each. A letter that a match does not have goes on to the next.
 use calls::state::Machine;
 use console::commands;
 use operating::outcomes;
