@@ -6,7 +6,7 @@ use lib.Dec.{ltb, eqb}
 use lib.ListN.{length, set}
 use Rattle.word.specs.Word.{plusAt, joinAt, lowAt}
 use Rattle.word.specs.Bits.{bitAt, orAt}
-use Rattle.isa.specs.Names.{F}
+use Rattle.names.specs.Names.{F}
 use Rattle.bus.specs.State.{word, cpu, devices, withDevices, withHalted, reset}
 use Rattle.bus.specs.declared.state.Cpu.{Cpu}
 use Rattle.bus.specs.declared.state.Devices.{Devices}

@@ -1,4 +1,5 @@
 // What the desk is started with: desk [--ram N] [--slots N] [IMAGE]
+use crate::texts;
 use crate::values;
 use crate::version;
 use crate::words;
@@ -29,7 +30,7 @@ fn bad(s: Settings, what: &[u8], i: usize) -> Settings {
     let mut room = io::buffer();
     let n = os::arg(i, &mut room);
     report::text(b"desk: ");
-    values::complain(what, &room[0..n]);
+    values::complain(what, words::front(&room, n));
     usage();
     ended(s)
 }
@@ -57,7 +58,7 @@ Commands come from standard input, a line each; ? lists them.
 fn number_in(i: usize) -> u16 {
     let mut room = io::buffer();
     let n = os::arg(i, &mut room);
-    let r = numbers::unsigned(&room[0..n]);
+    let r = numbers::unsigned(words::front(&room, n));
     match r {
         Read::Is(v) => v.bits,
         Read::Bad | Read::TooLarge => 65535,
@@ -93,36 +94,28 @@ fn with_image(s: Settings, i: usize) -> Settings {
     e
 }
 
-// Which option an argument is: 1 --ram, 2 --slots, 3 --version, 4 --help, 5 another that begins with a minus sign, 0 none.
+// Which option a word is: its line here; 5 is another that begins with a minus sign, 255 none.
+fn option_in(word: &[u8]) -> u8 {
+    let n = texts::find(b"--ram\n--slots\n--version\n--help\n-h\n", 5, word);
+    if (n == 255) & (words::byte_at(word, 0) == b'-') {
+        return 5;
+    }
+    n
+}
+
 fn option(i: usize) -> u8 {
     let mut room = io::buffer();
     let n = os::arg(i, &mut room);
-    let word = &room[0..n];
-    if words::is_name(word, b"--ram") {
-        return 1;
-    }
-    if words::is_name(word, b"--slots") {
-        return 2;
-    }
-    if words::is_name(word, b"--version") {
-        return 3;
-    }
-    if words::is_name(word, b"--help") | words::is_name(word, b"-h") {
-        return 4;
-    }
-    if words::byte_at(word, 0) == b'-' {
-        return 5;
-    }
-    0
+    option_in(words::front(&room, n))
 }
 
 // One argument that is no number.
 fn with_argument(s: Settings, kind: u8, i: usize) -> Settings {
     match kind {
-        1 => with_ram(s, next(i)),
-        2 => with_slots(s, next(i)),
-        3 => told_version(s),
-        4 => told_help(s),
+        0 => with_ram(s, next(i)),
+        1 => with_slots(s, next(i)),
+        2 => told_version(s),
+        3 | 4 => told_help(s),
         5 => bad(s, b"there is no such option", i),
         _ => with_image(s, i),
     }
@@ -140,7 +133,7 @@ fn following(i: usize, n: usize, kind: u8) -> usize
     requires { ⌜ i < n ⌝ }
     ensures { λ r. ⌜ (i < r) × (r ≤ n) ⌝ }
 {
-    if kind != 0 {
+    if kind != 255 {
         if i + 1 < n {
             return i + 2;
         }

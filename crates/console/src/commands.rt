@@ -3,9 +3,6 @@ use crate::rows;
 use crate::texts;
 use crate::values;
 use crate::words;
-use crate::words::Part;
-ghost use Prim.Native.Nat.{_≤_};
-ghost use lib.ListN.{length};
 
 // A command by its row's letter. `b` is break in MB50's debugger, so that it stands for nothing else.
 pub enum Found {
@@ -83,16 +80,13 @@ fn answered(table: &[u8], ask: Ask, word: &[u8]) -> Found {
     }
 }
 
-fn row(table: &[u8], n: u8) -> Part
-    ensures { λ r. ⌜ (r .from ≤ r .to) × (r .to ≤ length (now (table .entry))) ⌝ }
-{
-    texts::piece(table, b'\n', n)
+// A row by its number; an empty one past the last.
+fn row<'a>(table: &'a [u8], n: u8) -> &'a [u8] {
+    words::cut(table, texts::piece(table, b'\n', n))
 }
 
-fn field(row: &[u8], n: u8) -> Part
-    ensures { λ r. ⌜ (r .from ≤ r .to) × (r .to ≤ length (now (row .entry))) ⌝ }
-{
-    texts::piece(row, b'|', n)
+fn field<'a>(row: &'a [u8], n: u8) -> &'a [u8] {
+    words::cut(row, texts::piece(row, b'|', n))
 }
 
 // Whether a word is a short name, behind which a comma may stand.
@@ -101,8 +95,8 @@ fn is_bare(word: &[u8], short: &[u8]) -> bool {
         return false;
     }
     let last = short.len() - 1;
-    if short[last] == b',' {
-        return words::is_name(word, &short[0..last]);
+    if words::byte_at(short, last) == b',' {
+        return words::is_name(word, words::front(short, last));
     }
     words::is_name(word, short)
 }
@@ -113,12 +107,10 @@ fn is_among(word: &[u8], shorts: &[u8]) -> bool {
     let mut n: u8 = 0;
     while n < 3 {
         let p = words::next(shorts, at);
-        let from = p.from;
-        let to = p.to;
-        if is_bare(word, &shorts[from..to]) {
+        if is_bare(word, words::cut(shorts, p)) {
             return true;
         }
-        at = to;
+        at = p.to;
         n += 1;
     }
     false
@@ -126,23 +118,11 @@ fn is_among(word: &[u8], shorts: &[u8]) -> bool {
 
 // Whether a word is a row's name, or one of its short names.
 fn is_named(row: &[u8], word: &[u8]) -> bool {
-    let p = field(row, NAME);
-    let from = p.from;
-    let to = p.to;
-    if words::is_name(word, &row[from..to]) {
-        return true;
-    }
-    let s = field(row, SHORT);
-    let first = s.from;
-    let last = s.to;
-    is_among(word, &row[first..last])
+    words::is_name(word, field(row, NAME)) | is_among(word, field(row, SHORT))
 }
 
 fn is_begun(row: &[u8], word: &[u8]) -> bool {
-    let p = field(row, NAME);
-    let from = p.from;
-    let to = p.to;
-    words::is_front(word, &row[from..to])
+    words::is_front(word, field(row, NAME))
 }
 
 fn one_more(front: Place, n: u8) -> Place {
@@ -157,16 +137,14 @@ fn sought(table: &[u8], word: &[u8]) -> Place {
     let mut front = Place::Unknown;
     let mut n: u8 = 0;
     while n < 255 {
-        let p = row(table, n);
-        let from = p.from;
-        let to = p.to;
-        if from == to {
+        let r = row(table, n);
+        if r.len() == 0 {
             return front;
         }
-        if is_named(&table[from..to], word) {
+        if is_named(r, word) {
             return Place::Is(n);
         }
-        if is_begun(&table[from..to], word) {
+        if is_begun(r, word) {
             front = one_more(front, n);
         }
         n += 1;
@@ -176,10 +154,7 @@ fn sought(table: &[u8], word: &[u8]) -> Place {
 
 fn lettered(table: &[u8], r: Place) -> Found {
     match r {
-        Place::Is(n) => {
-            let p = row(table, n);
-            Found::Is(words::byte_at(table, p.from))
-        }
+        Place::Is(n) => Found::Is(words::byte_at(row(table, n), 0)),
         Place::Unknown => Found::Unknown,
         Place::Ambiguous => Found::Ambiguous,
     }
@@ -198,28 +173,24 @@ fn tell_use(row: &[u8]) {
 }
 
 fn put_field(out: &mut [u8], at: usize, row: &[u8], n: u8) -> usize {
-    let p = field(row, n);
-    let from = p.from;
-    let to = p.to;
-    rows::put_all(out, at, &row[from..to])
+    rows::put_all(out, at, field(row, n))
 }
 
 // The second line: the short names, and what else there is to know.
 fn tell_more(row: &[u8]) {
-    let s = field(row, SHORT);
-    let from = s.from;
-    let to = s.to;
     report::text(b"    ");
-    if from < to {
-        report::text(b"Short: ");
-        report::text(&row[from..to]);
-        report::text(b". ");
-    }
-    let m = field(row, MORE);
-    let first = m.from;
-    let last = m.to;
-    report::text(&row[first..last]);
+    tell_short(field(row, SHORT));
+    report::text(field(row, MORE));
     report::end();
+}
+
+fn tell_short(names: &[u8]) {
+    if names.len() == 0 {
+        return;
+    }
+    report::text(b"Short: ");
+    report::text(names);
+    report::text(b". ");
 }
 
 fn tell(row: &[u8], is_long: bool) {
@@ -232,13 +203,11 @@ fn tell(row: &[u8], is_long: bool) {
 fn all(table: &[u8], is_long: bool) -> Found {
     let mut n: u8 = 0;
     while n < 255 {
-        let p = row(table, n);
-        let from = p.from;
-        let to = p.to;
-        if from == to {
+        let r = row(table, n);
+        if r.len() == 0 {
             return Found::Unknown;
         }
-        tell(&table[from..to], is_long);
+        tell(r, is_long);
         n += 1;
     }
     Found::Unknown
@@ -247,10 +216,7 @@ fn all(table: &[u8], is_long: bool) -> Found {
 // The row that was found, told; the answer is what was found.
 fn told(table: &[u8], r: Place) -> Found {
     if let Place::Is(n) = r {
-        let p = row(table, n);
-        let from = p.from;
-        let to = p.to;
-        tell(&table[from..to], true);
+        tell(row(table, n), true);
     }
     lettered(table, r)
 }
@@ -289,14 +255,12 @@ pub fn brief(line: &[u8], at: usize) {
 // help [COMMAND]
 pub fn help(line: &[u8], at: usize) {
     let p = words::next(line, at);
-    let from = p.from;
-    let to = p.to;
-    if from == to {
+    if p.from == p.to {
         consult(Ask::All, line);
         return;
     }
-    if values::is_end(line, to) {
-        let f = asked(Ask::One, &line[from..to]);
-        unfound(f, &line[from..to]);
+    if values::is_end(line, p.to) {
+        let word = words::cut(line, p);
+        unfound(asked(Ask::One, word), word);
     }
 }

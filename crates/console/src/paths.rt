@@ -2,8 +2,8 @@
 use crate::rows;
 use crate::values;
 use crate::words;
-use lexis::quoted;
-use lexis::quoted::Chars;
+use crate::words::Part;
+use quoted::Chars;
 
 // A file's name, and where the line goes on after it.
 pub struct Named {
@@ -11,39 +11,53 @@ pub struct Named {
     pub to: usize,
 }
 
+// The characters of a string in double quotes, put at the start of `out`.
+pub fn string(word: &[u8], out: &mut [u8]) -> Chars {
+    let n = word.len();
+    if n < 2 {
+        return Chars::Bad;
+    }
+    if words::byte_at(word, n - 1) != b'"' {
+        return Chars::Bad;
+    }
+    let within = Part { from: 1, to: n - 1 };
+    quoted::read(b'"', words::cut(word, within), out)
+}
+
+fn length(c: Chars) -> usize {
+    match c {
+        Chars::Are(n) => n,
+        Chars::Bad | Chars::NoRoom => 0,
+    }
+}
+
 // What stands between double quotes, or the word itself.
 fn unquoted(word: &[u8], out: &mut [u8]) -> usize {
-    if words::byte_at(word, 0) != b'"' {
-        return rows::put_all(out, 0, word);
+    if words::byte_at(word, 0) == b'"' {
+        return length(string(word, out));
     }
-    if word.len() < 2 {
-        return 0;
-    }
-    let last = word.len() - 1;
-    if word[last] != b'"' {
-        return 0;
-    }
-    let b = quoted::read(b'"', &word[1..last], out);
-    match b {
-        Chars::Are(n) => n,
-        Chars::Bad => 0,
-        Chars::NoRoom => 0,
-    }
+    rows::put_all(out, 0, word)
+}
+
+fn none(to: usize) -> Named {
+    Named { length: 0, to }
 }
 
 // The name at a place of the line, put into `out`; its length is 0 where there is none, which is said.
 pub fn name(line: &[u8], at: usize, out: &mut [u8]) -> Named {
     let p = words::next(line, at);
-    let from = p.from;
-    let to = p.to;
-    if from == to {
+    if p.from == p.to {
         report::text(b"a file's name is needed\n");
-        return Named { length: 0, to };
+        return none(p.to);
     }
-    let n = unquoted(&line[from..to], out);
+    let word = words::cut(line, p);
+    let n = unquoted(word, out);
     if (n == 0) | (out.len() < n) {
-        values::complain(b"not a file's name", &line[from..to]);
-        return Named { length: 0, to };
+        values::complain(b"not a file's name", word);
+        return none(p.to);
     }
-    Named { length: n, to }
+    Named {
+        length: n,
+        to: p.to,
+    }
 }

@@ -1,4 +1,5 @@
 // Bytes put one after the other: rows of text before they are written, names, copies of memory.
+use crate::words;
 
 // A byte at a place, and the place after it; past the row's end nothing.
 pub fn put(row: &mut [u8], at: usize, b: u8) -> usize {
@@ -45,7 +46,5 @@ pub fn put_decimal(row: &mut [u8], at: usize, n: u16, width: usize) -> usize {
 
 // The row up to a place, written.
 pub fn write(row: &[u8], to: usize) {
-    if to <= row.len() {
-        report::text(&row[0..to]);
-    }
+    report::text(words::front(row, to));
 }

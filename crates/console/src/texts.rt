@@ -1,4 +1,5 @@
 // Texts of many pieces, each ended by a mark: lines, the fields of a line.
+use crate::words;
 use crate::words::Part;
 ghost use Prim.Native.Nat.{_≤_};
 ghost use lib.ListN.{length};
@@ -46,11 +47,21 @@ pub fn piece(text: &[u8], mark: u8, n: u8) -> Part
     Part { from, to: from }
 }
 
-// One line of a text, written.
-pub fn line(text: &[u8], n: u8) {
-    let p = piece(text, b'\n', n);
-    let from = p.from;
-    let to = p.to;
-    report::text(&text[from..to]);
-    report::end();
+// One line of a text, written without its end; how long it is.
+pub fn show(text: &[u8], n: u8) -> usize {
+    let line = words::cut(text, piece(text, b'\n', n));
+    report::text(line);
+    line.len()
+}
+
+// The number of the line that a word is, in either case; 255 where it is none of so many.
+pub fn find(text: &[u8], lines: u8, word: &[u8]) -> u8 {
+    let mut n: u8 = 0;
+    while n < lines {
+        if words::is_name(word, words::cut(text, piece(text, b'\n', n))) {
+            return n;
+        }
+        n += 1;
+    }
+    255
 }

@@ -45,6 +45,11 @@ fn made(value: u16, is_given: bool, is_bad: bool, to: usize) -> Taken {
     }
 }
 
+// No number.
+pub fn none() -> Taken {
+    made(0, false, false, 0)
+}
+
 // The number at a place, or another where the line ends there. Addresses and counts have no sign.
 pub fn number(line: &[u8], at: usize, otherwise: u16) -> Taken {
     signed(line, at, otherwise, false)
@@ -52,40 +57,40 @@ pub fn number(line: &[u8], at: usize, otherwise: u16) -> Taken {
 
 fn signed(line: &[u8], at: usize, otherwise: u16, is_signed: bool) -> Taken {
     let p = words::next(line, at);
-    let from = p.from;
-    let to = p.to;
-    if from == to {
-        return made(otherwise, false, false, to);
+    if p.from == p.to {
+        return made(otherwise, false, false, p.to);
     }
-    let r = numbers::number(&line[from..to]);
+    let word = words::cut(line, p);
+    judged(numbers::number(word), is_signed, word, p.to)
+}
+
+fn judged(r: Read, is_signed: bool, word: &[u8], to: usize) -> Taken {
+    if let Read::Is(v) = r {
+        if is_signed | !v.negative {
+            return made(v.bits, true, false, to);
+        }
+        complain(b"a number without a sign is needed", word);
+    }
+    unread(r, word);
+    made(0, true, true, to)
+}
+
+// What is wrong with a word that is no number of 16 bits.
+pub fn unread(r: Read, word: &[u8]) {
     match r {
-        Read::Is(v) => {
-            if v.negative & !is_signed {
-                complain(b"a number without a sign is needed", &line[from..to]);
-                return made(0, true, true, to);
-            }
-            made(v.bits, true, false, to)
-        }
-        Read::Bad => {
-            complain(b"not a number", &line[from..to]);
-            made(0, true, true, to)
-        }
-        Read::TooLarge => {
-            complain(b"the number does not fit 16 bits", &line[from..to]);
-            made(0, true, true, to)
-        }
+        Read::Is(v) => {}
+        Read::Bad => complain(b"not a number", word),
+        Read::TooLarge => complain(b"the number does not fit 16 bits", word),
     }
 }
 
 // Whether the line ends here; what stands there is said to be too much.
 pub fn is_end(line: &[u8], at: usize) -> bool {
     let p = words::next(line, at);
-    let from = p.from;
-    let to = p.to;
-    if from == to {
+    if p.from == p.to {
         return true;
     }
-    complain(b"too many words, from here on", &line[from..to]);
+    complain(b"too many words, from here on", words::cut(line, p));
     false
 }
 

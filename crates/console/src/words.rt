@@ -1,5 +1,4 @@
 // The words of a line.
-use lexis::letters;
 ghost use Prim.Native.Nat.{_≤_, _<_};
 ghost use lib.ListN.{length};
 
@@ -7,6 +6,34 @@ ghost use lib.ListN.{length};
 pub struct Part {
     pub from: usize,
     pub to: usize,
+}
+
+// The bytes of a part; none where the line has no such part.
+pub fn cut<'a>(line: &'a [u8], p: Part) -> &'a [u8] {
+    let from = p.from;
+    let to = p.to;
+    if to <= line.len() {
+        if from <= to {
+            return &line[from..to];
+        }
+    }
+    &line[0..0]
+}
+
+// What stands from a place on.
+pub fn rest<'a>(line: &'a [u8], at: usize) -> &'a [u8] {
+    cut(
+        line,
+        Part {
+            from: at,
+            to: line.len(),
+        },
+    )
+}
+
+// The first so many bytes.
+pub fn front<'a>(bytes: &'a [u8], n: usize) -> &'a [u8] {
+    cut(bytes, Part { from: 0, to: n })
 }
 
 pub fn is_blank(b: u8) -> bool {

@@ -2,14 +2,14 @@
 use crate::exceptions;
 use bus::address;
 use bus::state::Board;
-use instructions::computing;
-use instructions::loading;
-use instructions::moving;
-use instructions::storing;
+use computing::arithmetic;
+use computing::moving;
 use isa::opcode;
 use isa::opcode::Op;
-use isa::register::F;
-use isa::register::PC;
+use memory::loading;
+use memory::storing;
+use names::register::F;
+use names::register::PC;
 use word::sums;
 ghost use mathlib.Core.Path.{_≡_};
 ghost use Rattle.word.specs.Word.{lowAt, highAt};
@@ -57,12 +57,12 @@ fn execute(
     match op {
         Op::Illegal(reason) => quiet(exceptions::raise(regs, csrs, reason, b), 2),
         Op::Alu(x) => {
-            computing::compute(regs, x, operands);
+            arithmetic::compute(regs, x, operands);
             let f = regs[F];
             quiet(exceptions::settle(csrs, before, f, b), 2)
         }
         Op::Compare(x) => {
-            computing::compare(regs, x, operands);
+            arithmetic::compare(regs, x, operands);
             let f = regs[F];
             quiet(exceptions::settle(csrs, before, f, b), 2)
         }

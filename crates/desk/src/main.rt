@@ -1,16 +1,15 @@
 // The desk: MB50's debugger on the laptop, over the proved machine. It reads commands from standard input, a line each.
-mod perform;
-mod scripts;
-mod state;
-
 use console::arguments;
 use console::arguments::Settings;
-use console::lines;
+use console::commands;
+use console::commands::Found;
 use console::lines::Line;
-use console::rows;
-use libc::STDERR_FILENO;
-use placing::images;
-use state::Desk;
+use console::words;
+use orders::images;
+use sitting::input;
+use sitting::own;
+use sitting::state;
+use sitting::state::Desk;
 ghost use mathlib.Core.Path.{_≡_};
 ghost use lib.ListN.{length};
 
@@ -27,44 +26,61 @@ fn journal_room() -> [u16; 32768]
     [0u16; 32768]
 }
 
-fn prompt(d: Desk) {
-    if (d.depth == 0) & d.is_terminal {
-        report::text(b"desk> ");
+// The command of a row's letter, of which the line goes on at a place. A letter has one arm, in `orders` or in `sitting`, and goes through the other as it came.
+fn obey(
+    letter: u8,
+    d: Desk,
+    line: &[u8],
+    at: usize,
+    machine: &mut [u16; 32],
+    ram: &mut [u8],
+    journal: &mut [u16],
+) -> Desk {
+    operating::operate(letter, line, at, machine, ram, journal);
+    own::tend(letter, d, line, at, machine, ram, journal.len() / 32)
+}
+
+// A line: a command, or nothing, or a remark that begins with #.
+fn perform(
+    d: Desk,
+    line: &[u8],
+    machine: &mut [u16; 32],
+    ram: &mut [u8],
+    journal: &mut [u16],
+) -> Desk {
+    let p = words::next(line, 0);
+    let name = words::cut(line, p);
+    if (name.len() == 0) | (words::byte_at(name, 0) == b'#') {
+        return d;
     }
+    let f = commands::find(name);
+    if let Found::Is(letter) = f {
+        return obey(letter, d, line, p.to, machine, ram, journal);
+    }
+    commands::unfound(f, name);
+    d
 }
 
 // The next line from where commands come from now, done.
-fn turn(d: Desk, ram: &mut [u8], old: &mut [u8], journal: &mut [u16]) -> Desk {
-    prompt(d);
+fn turn(d: Desk, machine: &mut [u16; 32], ram: &mut [u8], journal: &mut [u16]) -> Desk {
     let mut room = io::buffer();
-    let l = lines::read(state::source(d), &mut room);
-    match l {
-        Line::Is(n) => {
-            if room.len() < n {
-                return d;
-            }
-            let e = perform::perform(d, &room[0..n], ram, old, journal);
-            state::log(d, e, &room[0..n]);
-            e
-        }
-        Line::TooLong => {
-            report::text(b"the line is longer than 4,096 bytes; nothing was done\n");
-            d
-        }
-        Line::Endless => {
-            report::text(b"a million bytes and no line's end; no more is read from there\n");
-            state::left(d)
-        }
-        Line::End => state::left(d),
-    }
+    let l = input::next(d, &mut room);
+    let Line::Is(n) = l else {
+        return input::unread(d, l);
+    };
+    let line = words::front(&room, n);
+    let e = perform(d, line, machine, ram, journal);
+    state::log(d, e, line);
+    e
 }
 
 // A proved loop has to end, and nothing says that the input does. So the loop counts its turns down, from a number that no one uses up.
-fn session(start: Desk, ram: &mut [u8], old: &mut [u8], journal: &mut [u16]) {
-    let mut d = start;
+fn session(ram: &mut [u8], journal: &mut [u16]) {
+    let mut d = state::opened();
+    let mut machine = boundary::words::start();
     let mut turns = u64::MAX;
     while turns > 0 {
-        d = turn(d, ram, old, journal);
+        d = turn(d, &mut machine, ram, journal);
         if d.is_over {
             return;
         }
@@ -72,31 +88,15 @@ fn session(start: Desk, ram: &mut [u8], old: &mut [u8], journal: &mut [u16]) {
     }
 }
 
-// The memory at the start: the image, or zeros.
-fn begin(s: Settings, ram: &mut [u8], old: &mut [u8], journal: &mut [u16]) {
-    if !images::start_image(s.image, ram) {
-        return;
-    }
-    // The copy of the memory that the next command's changes are held to.
-    rows::put_all(old, 0, ram);
-    session(state::opened(), ram, old, journal);
-}
-
-// Where a standard descriptor is closed, a file would be opened in its place, and written over: so the empty device is.
-fn hold_standard() {
-    let mut i: u8 = 0;
-    while i < 3 {
-        let file = os::open_read(b"/dev/null");
-        if STDERR_FILENO < file {
-            libc::close(file);
-            return;
-        }
-        i += 1;
+// The memory at the start is the image, or zeros.
+fn begin(s: Settings, ram: &mut [u8], journal: &mut [u16]) {
+    if images::start_image(s.image, ram) {
+        session(ram, journal);
     }
 }
 
 fn main() {
-    hold_standard();
+    input::hold_standard();
     let s = arguments::read();
     let bytes = s.ram;
     let words = s.words;
@@ -110,12 +110,6 @@ fn main() {
         return;
     }
     let mut ram = ram_room();
-    let mut old = ram_room();
     let mut journal = journal_room();
-    begin(
-        s,
-        &mut ram[0..bytes],
-        &mut old[0..bytes],
-        &mut journal[0..words],
-    );
+    begin(s, &mut ram[0..bytes], &mut journal[0..words]);
 }

@@ -18,10 +18,10 @@ use Rattle.records.specs.Record.{recordWith, undoFrom}
 use Rattle.calls.specs.Inputs.{Input, step, box, nextOf, machine}
 use Rattle.calls.specs.Calls.{W, checkOf, answerOf, worldOf, started}
 use Rattle.calls.specs.declared.state.Machine.{Machine as MachineT}
-use Rattle.mb50.specs.Boundary.{taken, given, packed, runSteps, resultOf, Crossed, crossed}
+use Rattle.boundary.specs.Boundary.{startWords, taken, given, packed, runSteps, resultOf, Crossed, crossed}
 use Rattle.exact.specs.Demand3.{Allowed, Made, Chain, ended}
 use Rattle.exact.specs.Fields.{Budgeted}
-use Rattle.exact.specs.Boundary3.{startWords, numberIn, stepsIn, Owned, meant, Kept, Exported, Exports, owned}
+use Rattle.exact.specs.Boundary3.{numberIn, stepsIn, Owned, meant, Kept, Exported, Exports, owned}
 use Rattle.exact.specs.Boundary3.{leftOver, leftIn, startOwned, ownedAtEnd, Demand3Across}
 use Rattle.exact.proofs.Records.{reads-undo}
 use Rattle.exact.proofs.Lawful.{roomy}

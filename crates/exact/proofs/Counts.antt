@@ -13,14 +13,14 @@ use Rattle.isa.specs.declared.opcode.LoadOp.{LoadOp}
 use Rattle.isa.specs.declared.opcode.LoadOp.the-variants.{Ld, Ldb, Ldis, LdIf, LdisIf}
 use Rattle.isa.specs.declared.opcode.StoreOp.{StoreOp}
 use Rattle.isa.specs.declared.opcode.StoreOp.the-variants.{Sto, Stob, Ddsto}
-use Rattle.isa.specs.Names.{F, PC}
+use Rattle.names.specs.Names.{F, PC}
 use Rattle.bus.specs.State.{word}
 use Rattle.bus.specs.Addresses.{byteAt}
 use Rattle.bus.specs.declared.state.Cpu.{Cpu}
 use Rattle.bus.specs.declared.state.Board.{Board}
 use Rattle.bus.specs.declared.state.Devices.{Devices}
 use Rattle.bus.proofs.Kept.{picked}
-use Rattle.instructions.specs.Instructions.{Loaded, loaded, stored}
+use Rattle.memory.specs.Instructions.{Loaded, loaded, stored}
 use Rattle.cpu.specs.Exceptions.{due}
 use Rattle.cpu.specs.Step.{executed, past, runs, stepOf}
 use Rattle.history.specs.Trace.{Box, Effect, Next, refuses, gives, Popped, denies, hands, Undo, Store as Journal, Answer, Call, give, run, back}

@@ -10,7 +10,7 @@ use lib.ListN.{length, length-set, take, length-take}
 use Rattle.word.specs.Word.{joinAt, lowAt}
 use Rattle.word.proofs.Width.{low-below, plus-below}
 use Rattle.word.proofs.Digits.{below}
-use Rattle.isa.specs.Names.{F}
+use Rattle.names.specs.Names.{F}
 use Rattle.bus.specs.State.{word, devices}
 use Rattle.bus.specs.Good.{Within, GoodDevices, Good, Changed, none, one, two}
 use Rattle.bus.specs.declared.state.Cpu.{Cpu}

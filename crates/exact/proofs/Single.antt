@@ -8,9 +8,10 @@ use lib.Dec.{eqb}
 use Rattle.bus.specs.Addresses.{Bus, bus}
 use Rattle.bus.specs.declared.state.Cpu.{Cpu}
 use Rattle.bus.specs.declared.state.Board.{Board}
-use Rattle.instructions.specs.Instructions.{Moved, moves, Loaded, loads}
-use Rattle.instructions.specs.Code.{Over, overAs}
-use Rattle.instructions.specs.declared.storing.Written.{Written}
+use Rattle.computing.specs.Instructions.{Moved, moves}
+use Rattle.memory.specs.Instructions.{Loaded, loads}
+use Rattle.memory.specs.Code.{Over, overAs}
+use Rattle.memory.specs.declared.storing.Written.{Written}
 use Rattle.cpu.specs.Code.{Told, toldAs}
 use Rattle.cpu.specs.declared.step.Done.{Done}
 use Rattle.history.specs.Trace.{Undo, Answer, Cause, no-run, budget, stopped, Call}
@@ -30,7 +31,7 @@ use Rattle.calls.specs.declared.state.Answer.the-variants.{Accepted, Stepped, R
 use Rattle.calls.specs.declared.state.Stop.{Stop}
 use Rattle.calls.specs.declared.state.Stop.the-variants.{Halted, Budget}
 use Rattle.calls.specs.declared.state.Reply.{Reply}
-use Rattle.mb50.specs.Boundary.{Crossed, Crosses}
+use Rattle.boundary.specs.Boundary.{Crossed, Crosses}
 use Rattle.running.specs.Code.{Turn, turnAs}
 use Rattle.running.specs.declared.recorded.Recorded.{Recorded}
 

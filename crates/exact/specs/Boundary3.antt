@@ -5,20 +5,15 @@ use Prim.Native.Nat.{ℕ}
 use mathlib.Core.Path.{_≡_}
 use mathlib.Core.List.{List, [], _∷_}
 use mathlib.Core.Option.{some}
-use lib.ListN.{replicate, set}
 use Rattle.word.specs.Word.{lowAt, highAt}
 use Rattle.bus.specs.State.{word, reset}
 use Rattle.history.specs.Trace.{Call, back, Left, leaves, upTo, ruled, backNumber}
 use Rattle.history.specs.Ring.{slots}
 use Rattle.calls.specs.Inputs.{Input, step, box, machine}
 use Rattle.calls.specs.Calls.{W, worldOf}
-use Rattle.mb50.specs.Boundary.{taken, Crosses}
+use Rattle.boundary.specs.Boundary.{startWords, taken, Crosses}
 use Rattle.exact.specs.Demand3.{Typed}
 use Rattle.exact.specs.Fields.{Budgeted}
-
--- "The starting state is all words 0 but word 24, which is 2 (T=1)."
-abbrev pub startWords : List ℕ
-startWords = set (replicate 32 0) 24 2
 
 -- "0–15 the refusal's number, 0 if accepted"
 abbrev pub numberIn : ℕ → ℕ

@@ -5,7 +5,8 @@ use Rattle.alu.specs.Unit.{addOf, subOf, logicOf, shraOf, aluOf, compareOf}
 use Rattle.isa.specs.Opcode.{meaning}
 use Rattle.bus.specs.State.{reset}
 use Rattle.bus.specs.Addresses.{deviceByte, byteAt, wordAt, deviceAfter, putByte, putWord}
-use Rattle.instructions.specs.Instructions.{computed, compared, moved, loaded, stored}
+use Rattle.computing.specs.Instructions.{computed, compared, moved}
+use Rattle.memory.specs.Instructions.{loaded, stored}
 use Rattle.cpu.specs.Exceptions.{due, entered, illegal, settledCsrs, settledHalt}
 use Rattle.cpu.specs.Step.{executed, runs, stepOf}
 use Rattle.text.specs.Listing.{textOf}

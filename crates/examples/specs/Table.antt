@@ -5,7 +5,7 @@ use mathlib.Core.Path.{_≡_}
 use mathlib.Core.Bool.{Bool, true, false}
 use mathlib.Core.List.{List, [], _∷_, map}
 use lib.ListN.{set}
-use Rattle.isa.specs.Names.{bytes, IA, F, PC}
+use Rattle.names.specs.Names.{bytes, IA, F, PC}
 use Rattle.bus.specs.State.{cpu, withHalted, reset}
 use Rattle.bus.specs.declared.state.Cpu.{Cpu}
 use Rattle.cpu.specs.Step.{stepOf}

@@ -7,7 +7,7 @@ use native.Mathlib.Omega.{arith}
 use borrow.Author.Tests.{le-ltb}
 use lib.ListN.{length, take, drop, length-append, length-drop, take-append-drop, drop-of-length-le}
 use lib.Seq.{sets, sets-eq, drop-drop, take-all}
-use Rattle.isa.specs.Names.{bytes as Names·bytes}
+use Rattle.names.specs.Names.{bytes as Names·bytes}
 use Rattle.isa.specs.Opcode.{givesReason2}
 use Rattle.text.specs.Listing.{textOf, listLeaves}
 use Rattle.text.proofs.Fitting.{sets-append}

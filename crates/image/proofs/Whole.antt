@@ -7,7 +7,7 @@ use native.Mathlib.Omega.{arith}
 use borrow.Author.Tests.{leb-true, le-leb, lt-leb, eq-eqb, ne-eqb}
 use lib.Dec.{eqb, leb}
 use lib.ListN.{length, getD, drop, length-drop}
-use Rattle.isa.specs.Names.{bytes}
+use Rattle.names.specs.Names.{bytes}
 use Rattle.text.specs.Answer.{Answer}
 use Rattle.text.proofs.Unique.{read-back}
 use Rattle.image.specs.Image.{linesOf, hexValue, headerOf, listingOf, writtenAs}

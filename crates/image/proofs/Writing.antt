@@ -7,7 +7,7 @@ use native.Mathlib.Nat.{add-zero}
 use native.Mathlib.Omega.{arith}
 use lib.ListN.{length, getD, drop, length-append, drop-of-length-le}
 use lib.Seq.{sets, drop-cons}
-use Rattle.isa.specs.Names.{bytes}
+use Rattle.names.specs.Names.{bytes}
 use Rattle.isa.specs.Opcode.{givesReason2}
 use Rattle.text.specs.Listing.{textOf}
 use Rattle.text.proofs.Fitting.{sets-append}

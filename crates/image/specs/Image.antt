@@ -4,8 +4,8 @@ use mathlib.Core.Bool.{Bool, cond, _&&_}
 use mathlib.Core.List.{List, [], _∷_, _++_}
 use lib.Dec.{eqb, leb, ltb}
 use lib.ListN.{length, getD, drop}
-unfoldable pub use Rattle.lexis.specs.Letters.{hexValue}
-use Rattle.isa.specs.Names.{bytes}
+unfoldable pub use Rattle.letters.specs.Letters.{hexValue}
+use Rattle.names.specs.Names.{bytes}
 use Rattle.isa.specs.Opcode.{givesReason2}
 use Rattle.text.specs.Answer.{Answer, accepted, refused}
 use Rattle.text.specs.Listing.{textOf, fitSays, fitLeaves}

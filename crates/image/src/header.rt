@@ -1,5 +1,4 @@
 // The front of an image: where its bytes stand.
-use lexis::letters;
 ghost use mathlib.Core.Path.{_≡_};
 ghost use Rattle.image.specs.Image.{headerOf};
 

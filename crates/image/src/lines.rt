@@ -7,7 +7,7 @@ ghost use Prim.Native.Nat.{_+_, _%_, _≤_};
 ghost use lib.ListN.{length};
 ghost use lib.Seq.{sets};
 ghost use Rattle.isa.specs.Code.{TellsAll};
-ghost use Rattle.isa.specs.Names.{bytes as Names·bytes};
+ghost use Rattle.names.specs.Names.{bytes as Names·bytes};
 ghost use Rattle.image.specs.Image.{hexDigit, hexByte, hexWord, instructionOf, pairLine, lastLine, linesOf};
 
 // Bytes, stored from `at` on; the place after them.

@@ -9,10 +9,10 @@ use lib.Dec.{leb}
 use lib.ListN.{length, set}
 use Rattle.word.specs.Word.{joinAt}
 use Rattle.word.specs.Memory.{byteIn}
-use Rattle.isa.specs.Names.{regNumbered}
-use Rattle.isa.specs.declared.register.Reg.{Reg}
-use Rattle.isa.specs.declared.register.FoundReg.{FoundReg}
-use Rattle.isa.specs.declared.register.FoundReg.the-variants as FoundReg
+use Rattle.names.specs.Names.{regNumbered}
+use Rattle.names.specs.declared.register.Reg.{Reg}
+use Rattle.names.specs.declared.register.FoundReg.{FoundReg}
+use Rattle.names.specs.declared.register.FoundReg.the-variants as FoundReg
 use Rattle.bus.specs.declared.state.Cpu.{Cpu}
 use Rattle.history.specs.Trace.{gives, no-run, Answer, answers, give}
 use Rattle.history.specs.Ring.{Ring, ringOf, pushed, slots}

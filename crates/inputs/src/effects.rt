@@ -1,8 +1,8 @@
 // What each input but the step does to the state, where it is accepted.
 use bus::state::Cpu;
 use bus::state::Devices;
-use isa::register::F;
-use isa::register::Reg;
+use names::register::F;
+use names::register::Reg;
 use word::bits;
 use word::choice;
 use word::halves;

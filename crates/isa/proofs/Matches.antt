@@ -9,7 +9,7 @@ use lib.ListN.{getD, length, List·getD-eq-default}
 use native.Mathlib.Omega.{arith}
 use borrow.Author.Tests.{ltb-true, ltb-false}
 use Rattle.isa.specs.Opcode.{images}
-use Rattle.lexis.proofs.Lists.{ranged}
+use Rattle.letters.proofs.Lists.{ranged}
 
 -- what the last arm of a match on k is told, after an arm for each of n numbers from m on
 abbrev Others : ℕ → ℕ → ℕ → Type 0

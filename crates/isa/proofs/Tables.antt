@@ -7,9 +7,10 @@ use lib.Dec.{leb}
 use native.Mathlib.Omega.{arith}
 use borrow.Author.Tests.{leb-true}
 use Rattle.isa.specs.Opcode.{meaning, reasonOf}
-use Rattle.isa.specs.Code.{pack, keyAt, opIn, nameIn, TellsAll}
+use Rattle.names.specs.Code.{pack}
+use Rattle.isa.specs.Code.{keyAt, opIn, nameIn, TellsAll}
 use Rattle.isa.specs.declared.opcode.Op.{Op}
-use Rattle.lexis.proofs.Lists.{agree, ranged}
+use Rattle.letters.proofs.Lists.{agree, ranged}
 
 tells : (t : List ℕ) → TellsAll t → (o : ℕ) → o < 256 → _≡_ {A = ℕ × Op} (nameIn t o, opIn t o) (keyAt o, meaning o .op)
 unfolding TellsAll

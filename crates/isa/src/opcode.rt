@@ -1,7 +1,7 @@
 // What each opcode byte is, for stepping, listing and assembling alike: one table tells each byte's kind, and what is of a kind has one operation.
-use crate::keys;
 use alu::AluOp;
 use alu::CompareOp;
+use names::keys;
 ghost use mathlib.Core.Path.{_≡_};
 ghost use Prim.Native.Nat.{_%_};
 ghost use lib.ListN.{getD};

@@ -8,13 +8,13 @@ use native.Mathlib.Omega.{arith}
 use borrow.Author.Tests.{lt-leb}
 use lib.Dec.{leb}
 use lib.ListN.{length, getD}
-use Rattle.lexis.specs.Quoted.{charsSay, charsLeave}
+use Rattle.quoted.specs.Quoted.{charsSay, charsLeave}
 use Rattle.lexis.specs.Numbers.{ofChars}
 use Rattle.lexis.specs.Code.{charsValue}
 use Rattle.lexis.specs.declared.numbers.Value.{Value}
 use Rattle.lexis.specs.declared.numbers.Read.the-variants as Read
-use Rattle.lexis.specs.declared.quoted.Chars.{Chars}
-use Rattle.lexis.specs.declared.quoted.Chars.the-variants as Chars
+use Rattle.quoted.specs.declared.Chars.{Chars}
+use Rattle.quoted.specs.declared.Chars.the-variants as Chars
 
 abbrev weight : Chars → ℕ
 weight (Chars.Are n) = 2 + n

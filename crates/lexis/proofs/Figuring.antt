@@ -10,7 +10,7 @@ use borrow.Author.Tests.{ltb-true, ltb-false, lt-ltb, le-ltb, lt-leb, leb-true, 
 use lib.Dec.{eqb, leb, ltb}
 use lib.ListN.{length, getD, take, drop, length-drop, List·getD-eq-default}
 use lib.Seq.{drop-cons, take-all}
-use Rattle.lexis.specs.Letters.{lower, hexValue}
+use Rattle.letters.specs.Letters.{lower, hexValue}
 use Rattle.lexis.specs.Numbers.{grouped, digits, valueIn, most, valuedOf, unsignedIn, baseBy, baseOf, unsignedOf, numberOf}
 use Rattle.lexis.specs.Code.{longerOf, goneOn, noFigures, figuresOf, judgedOf}
 use Rattle.lexis.specs.declared.numbers.Figures.{Figures}

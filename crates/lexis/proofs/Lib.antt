@@ -1,4 +1,2 @@
-pub mod Lists
-pub mod Reading
 pub mod Figuring
 pub mod Characters

@@ -5,9 +5,9 @@ use mathlib.Core.List.{List, [], _∷_}
 use mathlib.Core.Option.{Option, some, none}
 use lib.Dec.{eqb, leb, ltb}
 use lib.ListN.{length, getD, take, drop}
-use Rattle.lexis.specs.Letters.{lower, hexValue}
-use Rattle.lexis.specs.Quoted.{meant}
-use Rattle.lexis.specs.declared.quoted.Mode.the-variants.{Plain}
+use Rattle.letters.specs.Letters.{lower, hexValue}
+use Rattle.quoted.specs.Quoted.{meant}
+use Rattle.quoted.specs.declared.Mode.the-variants.{Plain}
 use Rattle.lexis.specs.declared.numbers.Value.{Value}
 use Rattle.lexis.specs.declared.numbers.Read.{Read}
 use Rattle.lexis.specs.declared.numbers.Read.the-variants.{Is, Bad, TooLarge}

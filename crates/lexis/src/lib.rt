@@ -1,4 +1,2 @@
-// What a person writes, byte by byte: letters, digits and blanks; numbers; what stands between quotes.
-pub mod letters;
+// Numbers as a person writes them.
 pub mod numbers;
-pub mod quoted;

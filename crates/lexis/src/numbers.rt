@@ -1,13 +1,11 @@
 // Numbers: decimal, hexadecimal (0x) and binary (0b), in groups, with a minus sign; and characters in quotes.
-use crate::letters;
-use crate::quoted;
-use crate::quoted::Chars;
+use quoted::Chars;
 ghost use mathlib.Core.Path.{_≡_};
 ghost use Prim.Native.Nat.{_+_, _*_, _≤_, min};
 ghost use Rattle.lexis.specs.Numbers.{most as mostOf, valuedOf, unsignedIn, baseBy, unsignedOf, minusOf, negated as negatedOf, ofChars, characterOf, numberOf};
-ghost use Rattle.lexis.specs.Quoted.{meant};
+ghost use Rattle.quoted.specs.Quoted.{meant};
 ghost use Rattle.lexis.specs.Code.{longerOf, figuresOf, judgedOf, charsValue};
-ghost use Rattle.lexis.specs.declared.quoted.Mode.the-variants.{Plain};
+ghost use Rattle.quoted.specs.declared.Mode.the-variants.{Plain};
 
 // A number's 16 bits; whether it is stored as a word; whether it had a minus sign.
 pub struct Value {

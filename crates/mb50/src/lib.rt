@@ -1,19 +1,18 @@
 // The C boundary: the calls on 32 words of state, lent bytes and lent journal words, and the text of instructions. No rule of its own.
-mod fields;
-mod words;
-
+use boundary::fields;
+use boundary::words;
 use machine::Call;
 ghost use Rattle.history.specs.Trace.{Call as CallOf, give, back as goesBack};
 ghost use Rattle.calls.specs.Inputs.{Input};
 ghost use Rattle.machine.specs.Asked.{asked};
-ghost use Rattle.mb50.specs.Boundary.{Crosses, listed, assembled};
+ghost use Rattle.boundary.specs.Boundary.{Crosses, listed, assembled};
 ghost use mathlib.Core.Path.{_≡_};
 ghost use lib.ListN.{length};
 ghost use Rattle.text.specs.Listing.{listSays, listLeaves};
 ghost use Rattle.text.specs.Assembling.{assembleSays};
 
 // Words to machine, the call, machine to words.
-fn cross(call: Call, state: &mut [u16; 32], ram: &mut [u8], journal: &mut [u16]) -> u64
+pub fn cross(call: Call, state: &mut [u16; 32], ram: &mut [u8], journal: &mut [u16]) -> u64
     ensures { λ r. ⌜ Crosses (asked call) (now (state .entry)) (now (ram .entry)) (now (journal .entry)) r (now (state .exit)) (now (ram .exit)) (now (journal .exit)) ⌝ }
 {
     let m = words::taken(*state);

@@ -1,30 +1,7 @@
-// What a command changed: registers, status registers, devices, bytes of memory.
+// What a command changed: parts of the state, bytes of memory.
+use crate::parts;
 use crate::status;
-use bus::state::Board;
-use bus::state::Cpu;
-use calls::state::Machine;
-use console::rows;
 use console::words;
-
-// The registers with a fixed name by it.
-pub fn register_name(n: usize) {
-    match n {
-        11 => report::text(b"sp"),
-        12 => report::text(b"ca"),
-        13 => report::text(b"ia"),
-        14 => report::text(b"f"),
-        15 => report::text(b"pc"),
-        _ => {
-            report::text(b"r");
-            report::decimal(n as u64);
-        }
-    }
-}
-
-pub fn csr_name(n: usize) {
-    report::text(b"csr");
-    report::decimal(n as u64);
-}
 
 // The value before and after.
 pub fn arrow(old: u16, new: u16, width: usize) {
@@ -34,11 +11,6 @@ pub fn arrow(old: u16, new: u16, width: usize) {
     report::hex(new as u64, width);
 }
 
-fn from_to(old: u16, new: u16, width: usize) {
-    arrow(old, new, width);
-    report::end();
-}
-
 // A byte of memory by its address.
 pub fn place_name(at: u16) {
     report::text(b"[");
@@ -46,88 +18,43 @@ pub fn place_name(at: u16) {
     report::text(b"]");
 }
 
-// Each of these shows what changed, and answers whether anything did.
-fn register(n: usize, old: u16, new: u16) -> bool {
-    if old != new {
-        report::text(b"  ");
-        register_name(n);
-        from_to(old, new, 4);
-        return true;
+// A part that changed is shown; whether it did.
+fn part(n: u8, old: u16, new: u16) -> bool {
+    if old == new {
+        return false;
     }
-    false
+    report::text(b"  ");
+    parts::name(n);
+    arrow(old, new, parts::width(n));
+    report::end();
+    true
 }
 
-fn registers(old: &[u16; 16], new: &[u16; 16]) -> bool {
+// Whether any part changed.
+fn state(before: &[u16; 32], after: &[u16; 32]) -> bool {
     let mut any = false;
-    let mut i: usize = 0;
-    while i < 16 {
-        any = any | register(i, old[i], new[i]);
-        i += 1;
+    let mut n: u8 = 0;
+    while n < parts::PARTS {
+        any = any | part(n, parts::value(before, n), parts::value(after, n));
+        n += 1;
     }
     any
-}
-
-fn status_register(n: usize, old: u16, new: u16) -> bool {
-    if old != new {
-        report::text(b"  ");
-        csr_name(n);
-        from_to(old, new, 4);
-        return true;
-    }
-    false
-}
-
-fn status_registers(old: &[u16; 6], new: &[u16; 6]) -> bool {
-    let mut any = false;
-    let mut i: usize = 0;
-    while i < 6 {
-        any = any | status_register(i, old[i], new[i]);
-        i += 1;
-    }
-    any
-}
-
-fn named(name: &[u8], old: u16, new: u16, width: usize) -> bool {
-    if old != new {
-        report::text(b"  ");
-        report::text(name);
-        from_to(old, new, width);
-        return true;
-    }
-    false
-}
-
-pub fn mark(b: bool) -> u16 {
-    if b { 1 } else { 0 }
-}
-
-fn board(a: Board, b: Board) -> bool {
-    let old = a.devices;
-    let new = b.devices;
-    let c = named(b"clock", old.clock, new.clock, 4);
-    let x = named(b"RXD", old.rxd as u16, new.rxd as u16, 2);
-    let y = named(b"TXD", old.txd as u16, new.txd as u16, 2);
-    let r = named(b"R", mark(old.r), mark(new.r), 1);
-    let t = named(b"T", mark(old.t), mark(new.t), 1);
-    let h = named(b"halted", mark(a.halted), mark(b.halted), 1);
-    c | (x | (y | (r | (t | h))))
 }
 
 fn one_byte(at: usize, old: u8, new: u8) {
     report::text(b"  ");
     place_name((at % 65536) as u16);
-    from_to(old as u16, new as u16, 2);
+    arrow(old as u16, new as u16, 2);
+    report::end();
 }
 
-// One byte: whether it changed, so many having changed before it. The first ones are shown, the others counted; the copy takes them all.
-fn memory_byte(old: &mut [u8], at: usize, new: u8, before: usize) -> usize {
-    let was = words::byte_at(old, at);
-    if was == new {
+// One byte: how many have changed with it, so many having changed before it. The first ones are shown, the others counted.
+fn memory_byte(at: usize, old: u8, new: u8, before: usize) -> usize {
+    if old == new {
         return before;
     }
-    rows::put(old, at, new);
     if before < 32 {
-        one_byte(at, was, new);
+        one_byte(at, old, new);
     }
     if before < 100000 {
         return before + 1;
@@ -136,43 +63,34 @@ fn memory_byte(old: &mut [u8], at: usize, new: u8, before: usize) -> usize {
 }
 
 // How many bytes changed.
-fn memory(ram: &[u8], old: &mut [u8]) -> usize {
+fn memory(old: &[u8], ram: &[u8]) -> usize {
     let mut n: usize = 0;
     let mut i: usize = 0;
     while i < ram.len() {
-        n = memory_byte(old, i, ram[i], n);
+        n = memory_byte(i, words::byte_at(old, i), ram[i], n);
         i += 1;
     }
     n
 }
 
-fn processor(a: Cpu, b: Cpu) -> bool {
-    let g = a.regs;
-    let h = b.regs;
-    let of_registers = registers(&g, &h);
-    let j = a.csrs;
-    let k = b.csrs;
-    let of_csrs = status_registers(&j, &k);
-    let v = a.board;
-    let w = b.board;
-    let of_board = board(v, w);
-    of_registers | (of_csrs | of_board)
+// The bytes that are only counted.
+fn more(n: usize) {
+    if n <= 32 {
+        return;
+    }
+    report::text(b"  and ");
+    status::count(
+        (n - 32) as u64,
+        b"more byte of memory\n",
+        b"more bytes of memory\n",
+    );
 }
 
-// What differs between the machine before and after, and between the copy and the memory.
-pub fn show(before: Machine, after: Machine, ram: &[u8], old: &mut [u8]) {
-    let a = before.cpu;
-    let b = after.cpu;
-    let any = processor(a, b);
-    let n = memory(ram, old);
-    if 32 < n {
-        report::text(b"  and ");
-        status::count(
-            (n - 32) as u64,
-            b"more byte of memory\n",
-            b"more bytes of memory\n",
-        );
-    }
+// What differs between the state before and after, and between the memory before and after.
+pub fn show(before: &[u16; 32], old: &[u8], after: &[u16; 32], ram: &[u8]) {
+    let any = state(before, after);
+    let n = memory(old, ram);
+    more(n);
     if !any & (n == 0) {
         report::text(b"  no change\n");
     }

@@ -1,4 +1,5 @@
 // dump, dumpd, dumpw, dumpwd: a row shows 16 bytes as the processor reads them.
+use crate::parts;
 use bus::address;
 use bus::state::Devices;
 use console::rows;
@@ -124,7 +125,7 @@ fn rows_of(size: usize) -> usize {
 }
 
 // dump [ADDR [SIZE]]: the bytes are rounded up to whole rows. The answer is where the next dump starts.
-pub fn dump(last: Spot, f: Form, v: Devices, ram: &[u8], line: &[u8], at: usize) -> Spot {
+pub fn dump(last: Spot, f: Form, state: &[u16; 32], ram: &[u8], line: &[u8], at: usize) -> Spot {
     let a = values::number(line, at, last.at);
     if a.is_bad {
         return last;
@@ -134,6 +135,7 @@ pub fn dump(last: Spot, f: Form, v: Devices, ram: &[u8], line: &[u8], at: usize)
         return last;
     }
     let size = size_asked(last, a, n);
+    let v = parts::devices(state);
     let next = all_rows(f, v, ram, a.value, rows_of(size));
     Spot { at: next, size }
 }

@@ -2,6 +2,7 @@
 pub mod changes;
 pub mod code;
 pub mod dumps;
+pub mod parts;
 pub mod refusals;
 pub mod registers;
 pub mod status;

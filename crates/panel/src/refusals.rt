@@ -3,7 +3,7 @@ use console::texts;
 
 // The lines stand for the numbers from 0 on.
 fn meaning(n: u8) {
-    texts::line(
+    texts::show(
         b"accepted
 the RAM is longer than 65,504 bytes
 the journal is no multiple of 32 words, or over 32,768
@@ -22,6 +22,7 @@ operand unknown or of the wrong kind
 ",
         n,
     );
+    report::end();
 }
 
 // The refusal of a number; 0 is none.

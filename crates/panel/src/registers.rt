@@ -1,17 +1,14 @@
 // Registers, status registers and devices, shown; and found by their names.
-use crate::changes;
+use crate::parts;
 use crate::status;
-use bus::state::Board;
-use bus::state::Cpu;
 use console::values;
 use console::words;
-use isa::register;
-use isa::register::Csr;
-use isa::register::FoundCsr;
-use isa::register::FoundReg;
-use isa::register::Reg;
 use lexis::numbers;
 use lexis::numbers::Read;
+use names::register::Csr;
+use names::register::FoundCsr;
+use names::register::FoundReg;
+use names::register::Reg;
 
 // A number below 16, or 16 where the word is no such number.
 fn index(word: &[u8]) -> u8 {
@@ -44,113 +41,81 @@ fn csr_number(word: &[u8]) -> u8 {
     }
 }
 
-// A name and blanks up to the width of the longest.
-fn one_register(n: usize, value: u16) {
-    changes::register_name(n);
-    match n {
-        10 => report::space(),
-        14 => report::text(b"   "),
-        _ => report::text(b"  "),
+// Blanks up to a width, of which so much is used.
+fn fill(used: usize, width: usize) {
+    let mut i = used;
+    while i < width {
+        report::space();
+        i += 1;
     }
-    report::hex(value as u64, 4);
+}
+
+// A part's name, blanks up to a width, and what it holds.
+fn one(state: &[u16; 32], n: u8, width: usize) {
+    fill(parts::name(n), width);
+    parts::show(state, n);
 }
 
 // After the fourth of a row a line's end, else two blanks.
-fn between(n: usize) {
+fn between(n: u8) {
     if n % 4 == 3 {
         report::end();
-    } else {
+        return;
+    }
+    report::text(b"  ");
+}
+
+// Parts in rows of four, up to one.
+fn table(state: &[u16; 32], first: u8, end: u8, width: usize) {
+    let mut n = first;
+    while n < end {
+        one(state, n, width);
+        between(n);
+        n += 1;
+    }
+}
+
+// The devices and the halted mark.
+fn board(state: &[u16; 32]) {
+    let mut n = parts::BOARD;
+    while n < parts::PARTS {
         report::text(b"  ");
+        parts::name(n);
+        report::space();
+        parts::show(state, n);
+        n += 1;
     }
-}
-
-fn all_registers(regs: &[u16; 16]) {
-    let mut i: usize = 0;
-    while i < 16 {
-        one_register(i, regs[i]);
-        between(i);
-        i += 1;
-    }
-}
-
-pub fn show_register(c: Cpu, n: u8) {
-    let regs = c.regs;
-    let i = n as usize;
-    if i < 16 {
-        one_register(i, regs[i]);
-        report::end();
-    }
-}
-
-// What the debugger shows beside the registers: the flags, the devices, the halted mark.
-fn show_board(b: Board, f: u16) {
-    let v = b.devices;
-    report::text(b"flags ");
-    status::flags(f);
-    one_device(b"  clock ", v.clock, 4);
-    one_device(b"  RXD ", v.rxd as u16, 2);
-    one_device(b"  TXD ", v.txd as u16, 2);
-    one_device(b"  R ", changes::mark(v.r), 1);
-    one_device(b"  T ", changes::mark(v.t), 1);
-    one_device(b"  halted ", changes::mark(b.halted), 1);
     report::end();
 }
 
-fn one_device(name: &[u8], value: u16, width: usize) {
-    report::text(name);
-    report::hex(value as u64, width);
+pub fn show_register(state: &[u16; 32], n: u8) {
+    one(state, n, 4);
+    report::end();
 }
 
-pub fn show_registers(c: Cpu) {
-    let regs = c.regs;
-    all_registers(&regs);
-    let b = c.board;
-    show_board(b, regs[register::F]);
-}
-
-// csr6 to csr15 read 0.
-pub fn csr_value(csrs: &[u16; 6], n: usize) -> u16 {
-    if n < 6 {
-        return csrs[n];
-    }
-    0
-}
-
-fn one_csr(csrs: &[u16; 6], n: usize) {
-    changes::csr_name(n);
-    if n < 10 {
-        report::space();
-    }
-    report::space();
-    report::hex(csr_value(csrs, n) as u64, 4);
-}
-
-fn all_csrs(csrs: &[u16; 6]) {
-    let mut i: usize = 0;
-    while i < 16 {
-        one_csr(csrs, i);
-        between(i);
-        i += 1;
-    }
+// All registers, and what the debugger shows beside them: the flags, the devices, the halted mark.
+pub fn show_registers(state: &[u16; 32]) {
+    table(state, 0, parts::CSR, 4);
+    report::text(b"flags ");
+    status::flags(parts::f(state));
+    board(state);
 }
 
 // csr [NAME]
-pub fn csr(c: Cpu, line: &[u8], at: usize) {
-    let csrs = c.csrs;
+pub fn csr(state: &[u16; 32], line: &[u8], at: usize) {
     let p = words::next(line, at);
-    let from = p.from;
-    let to = p.to;
-    if from == to {
-        all_csrs(&csrs);
+    if p.from == p.to {
+        table(state, parts::CSR, parts::BOARD, 6);
         return;
     }
-    let n = csr_number(&line[from..to]);
+    let word = words::cut(line, p);
+    let n = csr_number(word);
     if 15 < n {
-        values::complain(b"no such status register", &line[from..to]);
+        values::complain(b"no such status register", word);
         return;
     }
-    if values::is_end(line, to) {
-        one_csr(&csrs, n as usize);
+    if values::is_end(line, p.to) {
+        one(state, parts::CSR + n, 6);
         report::end();
     }
 }

@@ -1,8 +1,6 @@
 // The line after step, back and execute: where the machine stands.
+use crate::parts;
 use bus::address;
-use bus::state::Cpu;
-use calls::state::Machine;
-use isa::register;
 use text::list;
 use text::list::Listed;
 
@@ -43,19 +41,25 @@ pub fn instruction(w: u16) {
     }
 }
 
+// The word at an address, as the processor reads it.
+pub fn word_at(state: &[u16; 32], ram: &[u8], at: u16) -> u16 {
+    address::read_word(parts::devices(state), ram, at)
+}
+
+fn bar() {
+    report::text(b" | ");
+}
+
 // The address, the instruction there, and the flags.
-pub fn place(c: Cpu, ram: &[u8]) {
-    let regs = c.regs;
-    let b = c.board;
-    let v = b.devices;
-    let pc = regs[register::PC];
+pub fn place(state: &[u16; 32], ram: &[u8]) {
+    let pc = parts::pc(state);
     report::text(b"pc ");
     report::hex(pc as u64, 4);
-    report::text(b" | ");
-    instruction(address::read_word(v, ram, pc));
-    report::text(b" | ");
-    flags(regs[register::F]);
-    report::text(b" | ");
+    bar();
+    instruction(word_at(state, ram, pc));
+    bar();
+    flags(parts::f(state));
+    bar();
 }
 
 pub fn count(n: u64, one: &[u8], more: &[u8]) {
@@ -68,9 +72,17 @@ pub fn count(n: u64, one: &[u8], more: &[u8]) {
     }
 }
 
-pub fn held(m: Machine) {
+fn comma() {
     report::text(b", ");
-    count(m.held as u64, b"record held\n", b"records held\n");
+}
+
+fn held(state: &[u16; 32]) {
+    comma();
+    count(
+        parts::held(state) as u64,
+        b"record held\n",
+        b"records held\n",
+    );
 }
 
 // How many of those asked for.
@@ -85,20 +97,18 @@ fn count_of(n: u64, of: u64, one: &[u8], more: &[u8]) {
 }
 
 // After steps: how many, of how many that were asked for; their bus bytes, and why they stopped.
-pub fn after_steps(m: Machine, ram: &[u8], steps: u64, of: u64, bus: u64, cause: &[u8]) {
-    let c = m.cpu;
-    place(c, ram);
+pub fn after_steps(state: &[u16; 32], ram: &[u8], steps: u64, of: u64, bus: u64, cause: &[u8]) {
+    place(state, ram);
     count_of(steps, of, b"step", b"steps");
-    report::text(b", ");
+    comma();
     count(bus, b"bus byte", b"bus bytes");
-    report::text(b", ");
+    comma();
     report::text(cause);
-    held(m);
+    held(state);
 }
 
-pub fn after_back(m: Machine, ram: &[u8], steps: u64, of: u64) {
-    let c = m.cpu;
-    place(c, ram);
+pub fn after_back(state: &[u16; 32], ram: &[u8], steps: u64, of: u64) {
+    place(state, ram);
     count_of(steps, of, b"step back", b"steps back");
-    held(m);
+    held(state);
 }

@@ -5,8 +5,8 @@ mod states;
 use bus::state::Cpu;
 use cpu::step;
 use isa::opcode;
-use isa::register::PC;
 use libc::STDIN_FILENO;
+use names::register::PC;
 ghost use mathlib.Core.Path.{_≡_};
 ghost use lib.ListN.{length};
 

@@ -11,12 +11,13 @@ use lib.Dec.{eqb, leb}
 use lib.ListN.{length, set}
 use lib.Seq.{sets}
 use Rattle.isa.specs.Opcode.{meaning, givesReason2}
-use Rattle.isa.specs.Code.{pack}
-use Rattle.isa.proofs.Spelling.{plain, allPlain, mnemonic-short, mnemonic-plain, mnemonic-some, register-short, register-plain, csr-short, csr-plain}
+use Rattle.names.specs.Code.{pack}
+use Rattle.isa.proofs.Spelling.{mnemonic-short, mnemonic-plain, mnemonic-some}
+use Rattle.names.proofs.Spelling.{plain, allPlain, register-short, register-plain, csr-short, csr-plain}
 use Rattle.text.specs.Listing.{firstIsCsr, secondIsCsr, operandName, textOf}
 use Rattle.text.specs.Code.{digits, keyText}
-use Rattle.isa.proofs.Keyed.{left, right}
-use Rattle.text.proofs.Bools.{either}
+use Rattle.names.proofs.Keyed.{left, right}
+use Rattle.grammar.proofs.Bools.{either}
 
 -- ---- the loops over a key
 

@@ -3,12 +3,12 @@ use mathlib.Core.Path.{_≡_, refl}
 use mathlib.Core.Bool.{Bool, true, false}
 use mathlib.Core.List.{List}
 use Prim.Native.Nat.{ℕ}
-use Rattle.isa.specs.Names.{regNamed, csrNamed}
-use Rattle.isa.specs.declared.register.FoundReg.{FoundReg}
-use Rattle.isa.specs.declared.register.FoundReg.the-variants as FoundReg
-use Rattle.isa.specs.declared.register.FoundCsr.{FoundCsr}
-use Rattle.isa.specs.declared.register.FoundCsr.the-variants as FoundCsr
-use Rattle.isa.proofs.Spelling.{reg-small, csr-small}
+use Rattle.names.specs.Names.{regNamed, csrNamed}
+use Rattle.names.specs.declared.register.FoundReg.{FoundReg}
+use Rattle.names.specs.declared.register.FoundReg.the-variants as FoundReg
+use Rattle.names.specs.declared.register.FoundCsr.{FoundCsr}
+use Rattle.names.specs.declared.register.FoundCsr.the-variants as FoundCsr
+use Rattle.names.proofs.Spelling.{reg-small, csr-small}
 use Rattle.text.specs.Assembling.{regNumber, csrNumber, operandOf}
 use Rattle.text.specs.Code.{Small}
 use Rattle.text.specs.declared.assemble.Operand.{Operand}

@@ -8,19 +8,20 @@ use borrow.Author.Tests.{eqb-false, le-leb, le-ltb, ltb-true}
 use lib.Dec.{eqb, leb, ltb}
 use lib.ListN.{length, take, length-append}
 use lib.Seq.{take-append-seam}
-use Rattle.isa.specs.Names.{registerName, csrName}
+use Rattle.names.specs.Names.{registerName, csrName}
 use Rattle.isa.specs.Opcode.{meaning, givesReason2}
-use Rattle.isa.proofs.Spelling.{plain, allPlain, mnemonic-plain, mnemonic-some, mnemonic-room, mnemonic-named}
-use Rattle.isa.proofs.Spelling.{register-plain, register-some, register-short, register-named, csr-plain, csr-some, csr-short, csr-named}
+use Rattle.isa.proofs.Spelling.{mnemonic-plain, mnemonic-some, mnemonic-room, mnemonic-named}
+use Rattle.names.proofs.Spelling.{plain, allPlain}
+use Rattle.names.proofs.Spelling.{register-plain, register-some, register-short, register-named, csr-plain, csr-some, csr-short, csr-named}
 use Rattle.text.specs.Answer.{Answer, accepted, refused}
-use Rattle.text.specs.Line.{all, blank, wordy, empty}
-use Rattle.text.specs.Grammar.{Word, IsLine}
+use Rattle.grammar.specs.Line.{all, blank, wordy, empty}
+use Rattle.grammar.specs.Grammar.{Word, IsLine}
 use Rattle.text.specs.Listing.{firstIsCsr, secondIsCsr, operandName, textOf, listSays, listLeaves}
 use Rattle.text.specs.Assembling.{operandOf, assembleSays}
 use Rattle.text.specs.declared.assemble.Operand.the-variants.{Number}
-use Rattle.isa.proofs.Keyed.{left, right}
-use Rattle.text.proofs.Bools.{clash}
-use Rattle.text.proofs.Reading.{complete}
+use Rattle.names.proofs.Keyed.{left, right}
+use Rattle.grammar.proofs.Bools.{clash}
+use Rattle.grammar.proofs.Reading.{complete}
 
 -- ---- a canonical name is a word of a line
 

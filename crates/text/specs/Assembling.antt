@@ -2,17 +2,17 @@
 use Prim.Native.Nat.{ℕ, _+_, _*_, _%_}
 use mathlib.Core.Bool.{Bool, cond}
 use mathlib.Core.List.{List}
-use Rattle.isa.specs.Names.{regNamed, csrNamed}
+use Rattle.names.specs.Names.{regNamed, csrNamed}
 use Rattle.isa.specs.Opcode.{opcodeNamed, givesReason2}
-use Rattle.isa.specs.declared.register.FoundReg.{FoundReg}
-use Rattle.isa.specs.declared.register.FoundReg.the-variants as FoundReg
-use Rattle.isa.specs.declared.register.FoundCsr.{FoundCsr}
-use Rattle.isa.specs.declared.register.FoundCsr.the-variants as FoundCsr
+use Rattle.names.specs.declared.register.FoundReg.{FoundReg}
+use Rattle.names.specs.declared.register.FoundReg.the-variants as FoundReg
+use Rattle.names.specs.declared.register.FoundCsr.{FoundCsr}
+use Rattle.names.specs.declared.register.FoundCsr.the-variants as FoundCsr
 use Rattle.isa.specs.declared.opcode.FoundOpcode.{FoundOpcode}
 use Rattle.isa.specs.declared.opcode.FoundOpcode.the-variants as FoundOpcode
 use Rattle.text.specs.Answer.{Answer, accepted, refused}
 use Rattle.text.specs.Listing.{firstIsCsr, secondIsCsr}
-use Rattle.text.specs.Line.{Line, words, noLine, lineOf}
+use Rattle.grammar.specs.Line.{Line, words, noLine, lineOf}
 use Rattle.text.specs.declared.assemble.Operand.{Operand}
 use Rattle.text.specs.declared.assemble.Operand.the-variants.{Number, NoOperand}
 use Rattle.text.specs.declared.trip.Again.{Again}

@@ -1,29 +1,13 @@
--- How private functions tell words of a line and texts: by places, and by keys. No public function's promise cites this file.
-use Prim.Native.Nat.{ℕ, zero, suc, _-_, _/_, _%_, _≤_}
+-- How private functions tell operands, texts and answers: texts by keys. No public function's promise cites this file.
+use Prim.Native.Nat.{ℕ, zero, suc, _/_, _%_, _≤_}
 use mathlib.Core.Bool.{cond}
 use mathlib.Core.List.{List, [], _∷_}
 use lib.Dec.{eqb}
-use lib.ListN.{take, drop}
 use Rattle.text.specs.Answer.{Answer}
-use Rattle.text.specs.Line.{Line, words, noLine}
-use Rattle.text.specs.declared.line.Split.{Split}
-use Rattle.text.specs.declared.line.Split.the-variants.{Words, NoWords}
 use Rattle.text.specs.declared.assemble.Operand.{Operand}
 use Rattle.text.specs.declared.assemble.Operand.the-variants.{Number, NoOperand}
 use Rattle.text.specs.declared.trip.Again.{Again}
 use Rattle.text.specs.declared.trip.Again.the-variants.{Same, Other}
-
--- the bytes from a up to b
-abbrev pub part : List ℕ → ℕ → ℕ → List ℕ
-part s a b = take (b - a) (drop a s)
-
-abbrev pub within : Split → ℕ → Type 0
-within (Words a b c d e f) n = (a ≤ b) × (b ≤ n) × (c ≤ d) × (d ≤ n) × (e ≤ f) × (f ≤ n)
-within NoWords n = Unit {0}
-
-abbrev pub splitAs : List ℕ → Split → Line
-splitAs s (Words a b c d e f) = words (part s a b) (part s c d) (part s e f)
-splitAs s NoWords = noLine
 
 -- an operand's number is a register's
 abbrev pub Small : Operand → Type 0

@@ -4,7 +4,7 @@ use mathlib.Core.Bool.{Bool, cond}
 use mathlib.Core.List.{List, _++_}
 use lib.Dec.{eqb, ltb}
 use lib.ListN.{length, drop}
-use Rattle.isa.specs.Names.{bytes, registerName, csrName}
+use Rattle.names.specs.Names.{bytes, registerName, csrName}
 use Rattle.isa.specs.Opcode.{meaning, givesReason2}
 use Rattle.text.specs.Answer.{Answer, accepted, refused}
 

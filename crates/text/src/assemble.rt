@@ -1,12 +1,12 @@
 // The word of a line, as `mv r1, r2`.
-use crate::line;
-use crate::line::Split;
+use grammar::line;
+use grammar::line::Split;
 use isa::opcode;
 use isa::opcode::FoundOpcode;
-use isa::register::Csr;
-use isa::register::FoundCsr;
-use isa::register::FoundReg;
-use isa::register::Reg;
+use names::register::Csr;
+use names::register::FoundCsr;
+use names::register::FoundReg;
+use names::register::Reg;
 ghost use mathlib.Core.Path.{_≡_};
 ghost use lib.Dec.{eqb};
 ghost use Rattle.isa.specs.Opcode.{opcodeNamed};

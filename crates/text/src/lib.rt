@@ -1,5 +1,4 @@
 // Text of instructions: listing a word, assembling a line, and there and back.
 pub mod assemble;
-mod line;
 pub mod list;
 pub mod trip;

@@ -1,14 +1,15 @@
 // The text of a word, as `mv r1, r2`.
 use isa::opcode;
-use isa::register::Csr;
-use isa::register::Reg;
+use names::register::Csr;
+use names::register::Reg;
 ghost use mathlib.Core.Path.{_≡_};
 ghost use mathlib.Core.List.{_∷_, _++_};
 ghost use Prim.Native.Nat.{_+_, _≤_, _<_};
 ghost use lib.Dec.{ltb};
 ghost use lib.ListN.{length};
 ghost use lib.Seq.{sets};
-ghost use Rattle.isa.specs.Code.{pack, TellsAll};
+ghost use Rattle.isa.specs.Code.{TellsAll};
+ghost use Rattle.names.specs.Code.{pack};
 ghost use Rattle.text.specs.Answer.{listedAs};
 ghost use Rattle.text.specs.Listing.{firstIsCsr, secondIsCsr, operandName, fitSays, fitLeaves, listSays, listLeaves};
 ghost use Rattle.text.specs.Code.{keyText};

@@ -9,10 +9,10 @@ use isa::opcode::LoadOp;
 use isa::opcode::MoveOp;
 use isa::opcode::Op;
 use isa::opcode::StoreOp;
-use isa::register::Csr;
-use isa::register::FoundCsr;
-use isa::register::FoundReg;
-use isa::register::Reg;
+use names::register::Csr;
+use names::register::FoundCsr;
+use names::register::FoundReg;
+use names::register::Reg;
 ghost use Prim.Native.Nat.{_≤_};
 ghost use lib.ListN.{length};
 

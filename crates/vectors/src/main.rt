@@ -1,4 +1,4 @@
-// Runs the arithmetic unit and the instruction crate on the vectors of the independent model; what it prints is compared with the model's answers.
+// Runs the arithmetic unit, the instruction set and the names of registers on the vectors of the independent model; what it prints is compared with the model's answers.
 mod grid;
 mod instructions;
 

@@ -1,6 +1,6 @@
 use denote.Ref.{now}
 use Rattle.machine.specs.Asked.{asked}
-use Rattle.mb50.proofs.Crossing.{crosses}
+use Rattle.boundary.proofs.Crossing.{crosses}
 use borrow.Author.Needs.{needs}
 use Rattle.mb50.proofs.cross.Statement.{statement}
 use Rattle.mb50.proofs.cross.Tie as tie

@@ -1,4 +1,4 @@
-use Rattle.mb50.specs.Boundary.{assembled}
+use Rattle.boundary.specs.Boundary.{assembled}
 use mathlib.Core.Path.{_∙_, ap}
 use borrow.Author.Needs.{needs}
 use Rattle.mb50.proofs.mb50_assemble.Statement.{statement}

@@ -1,4 +1,4 @@
-use Rattle.mb50.specs.Boundary.{listed}
+use Rattle.boundary.specs.Boundary.{listed}
 use mathlib.Core.Path.{_∙_, ap}
 use borrow.Author.Needs.{needs}
 use Rattle.mb50.proofs.mb50_list.Statement.{statement}

@@ -5,7 +5,7 @@ use native.Mathlib.Omega.{arith}
 use denote.Ref.{now}
 use borrow.Author.Needs.{needs}
 use lib.ListN.{length-append}
-use Rattle.isa.specs.Names.{bytes}
+use Rattle.names.specs.Names.{bytes}
 use Rattle.image.specs.Image.{instructionOf, pairLine}
 use Rattle.image.proofs.Pieces.{wrote, then}
 use Rattle.image.proofs.Writing.{pair-long}

@@ -2,7 +2,7 @@ use mathlib.Core.Path.{_∙_}
 use Prim.Native.Nat.{_<_}
 use native.Mathlib.Omega.{arith}
 use denote.Ref.{now}
-use Rattle.isa.proofs.Keyed.{known-bytes}
+use Rattle.names.proofs.Keyed.{known-bytes}
 use Rattle.isa.proofs.Tables.{tells-name}
 use Rattle.isa.proofs.Guesses.{opcode-found, opcode-missed}
 use borrow.Author.Needs.{needs}

@@ -1,8 +1,8 @@
 use mathlib.Core.Path.{sym, _∙_}
 use denote.Ref.{now}
 use borrow.Author.Needs.{needs}
-use Rattle.lexis.specs.Quoted.{meant}
-use Rattle.lexis.specs.declared.quoted.Mode.the-variants.{Plain}
+use Rattle.quoted.specs.Quoted.{meant}
+use Rattle.quoted.specs.declared.Mode.the-variants.{Plain}
 use Rattle.lexis.proofs.Characters.{chars-are, chars-bad, chars-many}
 use Rattle.lexis.proofs.numbers.character.Statement.{statement}
 use Rattle.lexis.proofs.numbers.character.Tie as tie

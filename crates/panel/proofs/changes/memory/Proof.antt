@@ -1,19 +1,18 @@
 use Prim.Native.Nat.{_-_, _≤_}
-use mathlib.Core.Path.{_≡_}
 use lib.ListN.{length}
 use borrow.Author.Needs.{needs}
 use Rattle.panel.proofs.changes.memory.Statement.{statement}
 use Rattle.panel.proofs.changes.memory.Tie as tie
 
 abbrev Inv-loop : tie.InvT-loop
-Inv-loop ram old₀ n₀ i₀ old n i = (i ≤ length ram) × (length old ≡ length old₀)
+Inv-loop old ram n₀ i₀ n i = i ≤ length ram
 
 abbrev μ-loop : tie.MeasureT-loop
-μ-loop ram old₀ n₀ i₀ old n i = length ram - i
+μ-loop old ram n₀ i₀ n i = length ram - i
 
 pub memory-spec : {M : Type 1} → statement M
 memory-spec =
     tie.close
     (tie.spec
-    Inv-loop μ-loop (λ c. search needs) (λ c. search needs) (λ c κs. search needs) (λ c. search needs) (λ c. search needs)
-    (λ c. search needs) (λ c. search needs) (λ c. search needs))
+    Inv-loop μ-loop (λ c. search needs) (λ c κs. search needs) (λ c. search needs) (λ c κs. search needs)
+    (λ c. search needs) (λ c. search needs) (λ c. search needs) (λ c. search needs))

@@ -4,14 +4,14 @@ use Rattle.panel.proofs.code.lines.Statement.{statement}
 use Rattle.panel.proofs.code.lines.Tie as tie
 
 abbrev Inv-loop : tie.InvT-loop
-Inv-loop v ram from n pc at₀ i₀ at i = i ≤ n
+Inv-loop state ram from n at₀ i₀ at i = i ≤ n
 
 abbrev μ-loop : tie.MeasureT-loop
-μ-loop v ram from n pc at₀ i₀ at i = n - i
+μ-loop state ram from n at₀ i₀ at i = n - i
 
 pub lines-spec : {M : Type 1} → statement M
 lines-spec =
     tie.close
     (tie.spec
-    Inv-loop μ-loop (λ c. search needs) (λ c κs. search needs) (λ c κs. search needs) (λ c. search needs) (λ c. search needs)
-    (λ c. search needs) (λ c. search needs))
+    Inv-loop μ-loop (λ c. search needs) (λ c κs. search needs) (λ c κs. search needs) (λ c. search needs)
+    (λ c. search needs) (λ c. search needs) (λ c. search needs))

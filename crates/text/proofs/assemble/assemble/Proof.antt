@@ -2,7 +2,7 @@ use mathlib.Core.Path.{sym, ap, _∙_}
 use native.Mathlib.Omega.{arith}
 use denote.Ref.{now}
 use Rattle.text.specs.Assembling.{assembleSays}
-use Rattle.text.specs.Code.{splitAs}
+use Rattle.grammar.specs.Code.{splitAs}
 use borrow.Author.Needs.{needs}
 use Rattle.text.proofs.assemble.assemble.Statement.{statement}
 use Rattle.text.proofs.assemble.assemble.Tie as tie

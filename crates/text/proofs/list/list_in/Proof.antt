@@ -4,7 +4,7 @@ use Prim.Native.Nat.{_%_}
 use native.Mathlib.Omega.{arith}
 use borrow.Author.Needs.{needs}
 use borrow.Author.Tests.{eq-eqb, ne-eqb}
-use Rattle.isa.specs.Code.{pack}
+use Rattle.names.specs.Code.{pack}
 use Rattle.isa.specs.Opcode.{meaning}
 use Rattle.isa.proofs.Tables.{tells-name}
 use Rattle.text.specs.Code.{keyText}

@@ -1,0 +1,2 @@
+// The grammar of an instruction's line.
+pub mod line;

@@ -1,0 +1,3 @@
+pub mod Keyed
+pub mod Guesses
+pub mod Spelling
