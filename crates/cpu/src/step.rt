@@ -1,5 +1,4 @@
 // One step.
-use crate::exceptions;
 use bus::address;
 use bus::state::Board;
 use computing::arithmetic;

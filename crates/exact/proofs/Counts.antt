@@ -21,7 +21,7 @@ use Rattle.bus.specs.declared.state.Board.{Board}
 use Rattle.bus.specs.declared.state.Devices.{Devices}
 use Rattle.bus.proofs.Kept.{picked}
 use Rattle.memory.specs.Instructions.{Loaded, loaded, stored}
-use Rattle.cpu.specs.Exceptions.{due}
+use Rattle.exceptions.specs.Exceptions.{due}
 use Rattle.cpu.specs.Step.{executed, past, runs, stepOf}
 use Rattle.history.specs.Trace.{Box, Effect, Next, refuses, gives, Popped, denies, hands, Undo, Store as Journal, Answer, Call, give, run, back}
 use Rattle.history.specs.Trace.{guarded, gave, backed, after, stepped, ran, plain}

@@ -32,8 +32,8 @@ use Rattle.calls.specs.declared.state.Stop.{Stop}
 use Rattle.calls.specs.declared.state.Stop.the-variants.{Halted, Budget}
 use Rattle.calls.specs.declared.state.Reply.{Reply}
 use Rattle.boundary.specs.Boundary.{Crossed, Crosses}
-use Rattle.running.specs.Code.{Turn, turnAs}
-use Rattle.running.specs.declared.recorded.Recorded.{Recorded}
+use Rattle.recording.specs.Code.{Turn, turnAs}
+use Rattle.recording.specs.declared.Recorded.{Recorded}
 
 -- an answer, read back from the paper's number and values
 abbrev refusalFrom : ℕ → Refusal

@@ -7,7 +7,7 @@ use Rattle.bus.specs.State.{reset}
 use Rattle.bus.specs.Addresses.{deviceByte, byteAt, wordAt, deviceAfter, putByte, putWord}
 use Rattle.computing.specs.Instructions.{computed, compared, moved}
 use Rattle.memory.specs.Instructions.{loaded, stored}
-use Rattle.cpu.specs.Exceptions.{due, entered, illegal, settledCsrs, settledHalt}
+use Rattle.exceptions.specs.Exceptions.{due, entered, illegal, settledCsrs, settledHalt}
 use Rattle.cpu.specs.Step.{executed, runs, stepOf}
 use Rattle.text.specs.Listing.{textOf}
 use Rattle.examples.specs.Table.{table, AllShown}

@@ -1,6 +1,4 @@
 // The inputs but the step, once the checks are passed: each with its own refusal, or the next state and one record more.
-mod effects;
-
 use bus::state::Cpu;
 use calls::checks;
 use calls::state::Answer;

@@ -2,7 +2,6 @@
 use calls::checks;
 use calls::state::Machine;
 use calls::state::Reply;
-use running::back;
 use running::run;
 ghost use mathlib.Core.Path.{_≡_};
 ghost use Rattle.calls.specs.Calls.{checkOf, worldOf, Keeps};

@@ -1,4 +1,2 @@
-// Running, once the checks are passed: one recorded step, the run and the lone step over it, and the step back.
-pub mod back;
-mod recorded;
+// Running, once the checks are passed: the run and the lone step over one recorded step.
 pub mod run;

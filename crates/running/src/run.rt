@@ -1,5 +1,4 @@
 // The run, and the lone step.
-use crate::recorded;
 use bus::state::Board;
 use bus::state::Cpu;
 use calls::checks;
@@ -19,7 +18,8 @@ ghost use Rattle.history.specs.Ring.{ring};
 ghost use Rattle.records.specs.Record.{recordOf, decoded};
 ghost use Rattle.calls.specs.Inputs.{Input, machine};
 ghost use Rattle.calls.specs.Code.{Acts};
-ghost use Rattle.running.specs.Code.{standing, runTold, ranAs, machineAt, placeIn};
+ghost use Rattle.recording.specs.Code.{standing};
+ghost use Rattle.running.specs.Code.{runTold, ranAs, machineAt, placeIn};
 
 // What a run leaves beside the registers and CSRs that were lent to it.
 struct Ended {
@@ -63,7 +63,7 @@ fn advance(
             break told(budget, bus, Stop::Budget);
         }
         let before = Board { devices, halted };
-        let r = recorded::recorded_step(table, regs, csrs, before, at, ram, journal);
+        let r = recording::recorded_step(table, regs, csrs, before, at, ram, journal);
         let b = r.board;
         devices = b.devices;
         halted = b.halted;

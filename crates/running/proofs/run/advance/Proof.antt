@@ -6,7 +6,7 @@ use denote.Ref.{now}
 use lib.ListN.{length}
 use Rattle.isa.specs.Code.{TellsAll}
 use Rattle.bus.specs.State.{cpu, board}
-use Rattle.running.specs.Code.{standing}
+use Rattle.recording.specs.Code.{standing}
 use Rattle.running.proofs.Turns.{runs, Going, begin, turn, halts, ends}
 use Rattle.running.proofs.run.advance.Statement.{statement}
 use Rattle.running.proofs.run.advance.Tie as tie

@@ -4,7 +4,7 @@ use Rattle.calls.specs.Inputs.{box, step}
 use Rattle.calls.specs.declared.state.Refusal.the-variants as Refusal
 use Rattle.calls.proofs.Giving.{step-stops}
 use Rattle.calls.proofs.Answering.{denied}
-use Rattle.running.proofs.Moving.{alone}
+use Rattle.running.proofs.Turns.{alone}
 use borrow.Author.Needs.{needs}
 use Rattle.running.proofs.run.step.Statement.{statement}
 use Rattle.running.proofs.run.step.Tie as tie
