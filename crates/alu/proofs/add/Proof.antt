@@ -5,7 +5,7 @@ use Rattle.alu.proofs.add.Tie as tie
 
 returns : tie.Need-returns
 unfolding addOf
-returns c = cc
+returns c = rw (c .sum-overflows .ensures, c .before .plus .ensures)
 
 pub add-spec : {M : Type 1} → statement M
 add-spec = tie.close (tie.spec (λ c κs. search needs) (λ c. search needs) (λ c κs. search needs) returns)

@@ -5,7 +5,9 @@ use Rattle.alu.proofs.shl.Tie as tie
 
 returns : tie.Need-returns
 unfolding shlOf
-returns c = cc
+returns c =
+    let c3 = c .before .before .before in
+    rw (c .unlike .ensures, c .before .bit2 .ensures, c .before .before .both .ensures, c3 .bit .ensures, c3 .before .shl .ensures)
 
 pub shl-spec : {M : Type 1} → statement M
 shl-spec =

@@ -5,7 +5,16 @@ use Rattle.alu.proofs.shr.Tie as tie
 
 returns : tie.Need-returns
 unfolding shrOf
-returns c = cc
+returns c =
+    let c3 = c .before .before .before in
+    rw (
+      c .unlike .ensures,
+      c .before .bit3 .ensures,
+      c .before .before .both .ensures,
+      c3 .bit2 .ensures,
+      c3 .before .bit .ensures,
+      c3 .before .before .shr .ensures,
+    )
 
 pub shr-spec : {M : Type 1} → statement M
 shr-spec =

@@ -5,7 +5,8 @@ use Rattle.alu.proofs.shra.Tie as tie
 
 returns : tie.Need-returns
 unfolding shraOf
-returns c = cc
+returns c =
+    rw (c .both2 .ensures, c .before .both .ensures, c .before .before .bit .ensures, c .before .before .before .shra .ensures)
 
 pub shra-spec : {M : Type 1} → statement M
 shra-spec =

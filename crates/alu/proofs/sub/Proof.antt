@@ -5,7 +5,7 @@ use Rattle.alu.proofs.sub.Tie as tie
 
 returns : tie.Need-returns
 unfolding subOf
-returns c = cc
+returns c = rw (c .difference-overflows .ensures, c .before .minus .ensures)
 
 pub sub-spec : {M : Type 1} → statement M
 sub-spec = tie.close (tie.spec (λ c κs. search needs) (λ c κs. search needs) returns)
