@@ -3,15 +3,20 @@
 /// The state as it crosses the boundary.
 pub type State = [u16; 32];
 
+/// An entry of a watched run's list as it crosses the boundary: its address, its kind (1 break, 2 watch) and its hits.
+pub type Entry = [u16; 3];
+
 type OfMachine = unsafe extern "C" fn(*mut u16, *mut u8, usize, *mut u16, usize) -> u64;
 type OfByte = unsafe extern "C" fn(*mut u16, *mut u8, usize, *mut u16, usize, u8) -> u64;
 type OfRegister = unsafe extern "C" fn(*mut u16, *mut u8, usize, *mut u16, usize, u8, u16) -> u64;
 type OfAddress = unsafe extern "C" fn(*mut u16, *mut u8, usize, *mut u16, usize, u16, u8) -> u64;
 type OfBudget = unsafe extern "C" fn(*mut u16, *mut u8, usize, *mut u16, usize, u16) -> u64;
+type OfList =
+    unsafe extern "C" fn(*mut u16, *mut u8, usize, *mut u16, usize, *mut Entry, usize, u16) -> u64;
 type OfWord = unsafe extern "C" fn(u16, *mut u8, usize) -> u64;
 type OfLine = unsafe extern "C" fn(*mut u8, usize) -> u64;
 
-/// The eleven functions. They are called through pointers so that neither of two implementations is compiled into its caller.
+/// The functions. They are called through pointers so that neither of two implementations is compiled into its caller.
 #[derive(Clone, Copy)]
 pub struct Functions {
     pub step: OfMachine,
@@ -22,6 +27,7 @@ pub struct Functions {
     pub poke: OfAddress,
     pub reset: OfMachine,
     pub run: OfBudget,
+    pub run_watched: OfList,
     pub step_back: OfMachine,
     pub list: OfWord,
     pub assemble: OfLine,
@@ -66,6 +72,16 @@ extern "C" {
         m: usize,
         budget: u16,
     ) -> u64;
+    fn mb50_run_watched(
+        state: *mut u16,
+        ram: *mut u8,
+        n: usize,
+        journal: *mut u16,
+        m: usize,
+        list: *mut Entry,
+        entries: usize,
+        budget: u16,
+    ) -> u64;
     fn mb50_step_back(state: *mut u16, ram: *mut u8, n: usize, journal: *mut u16, m: usize) -> u64;
     fn mb50_list(word: u16, out: *mut u8, n: usize) -> u64;
     fn mb50_assemble(line: *mut u8, n: usize) -> u64;
@@ -81,6 +97,7 @@ pub const LINKED: Functions = Functions {
     poke: mb50_poke,
     reset: mb50_reset,
     run: mb50_run,
+    run_watched: mb50_run_watched,
     step_back: mb50_step_back,
     list: mb50_list,
     assemble: mb50_assemble,
@@ -122,6 +139,22 @@ impl Functions {
                 Call::StepBack => (self.step_back)(s, r, n, j, m),
             }
         }
+    }
+
+    /// Runs with a list of breaks and watches.
+    #[inline(always)]
+    pub fn run_watched(
+        &self,
+        state: &mut State,
+        ram: &mut [u8],
+        journal: &mut [u16],
+        list: &mut [Entry],
+        budget: u16,
+    ) -> u64 {
+        let (n, m, entries) = (ram.len(), journal.len(), list.len());
+        let (s, r, j) = (state.as_mut_ptr(), ram.as_mut_ptr(), journal.as_mut_ptr());
+        // All that is lent is lent for the time of the call, each with its length, and no pointer of a slice is null.
+        unsafe { (self.run_watched)(s, r, n, j, m, list.as_mut_ptr(), entries, budget) }
     }
 
     /// Lists a word.

@@ -1,6 +1,8 @@
 //! Measures the library of the C boundary beside an emulator in plain Rust, on the same work in one run, and prints for each row its name,
-//! its items and both times in nanoseconds; `bench/run` makes a table of them. Both must leave the same state, RAM, journal and results;
-//! otherwise it says what differs and stops.
+//! its items and both times in nanoseconds, and for watched runs the library's time without the list; `bench/run` makes a table of them.
+//! All must leave the same state, RAM, journal, list and results; otherwise it says what differs and stops.
+//!
+//! Usage: bench [FRONT]: only the rows whose names begin so
 
 #[allow(dead_code)] // an image's listing is listing.rs's
 mod emulator;
@@ -15,7 +17,6 @@ use emulator::boundary;
 use library::{Functions, LINKED};
 use programs::Part;
 use std::process::ExitCode;
-use std::time::Duration;
 use work::{Desk, Work, ROOM};
 
 /// The emulator's functions.
@@ -28,6 +29,7 @@ const THEIRS: Functions = Functions {
     poke: boundary::poke,
     reset: boundary::reset,
     run: boundary::run,
+    run_watched: boundary::run_watched,
     step_back: boundary::step_back,
     list: boundary::list,
     assemble: boundary::assemble,
@@ -46,20 +48,31 @@ struct Row<'a> {
     work: Work<'a>,
 }
 
+/// Who does a row's work: a name to tell a difference by, the functions, and the work.
+type Side<'a> = (&'static str, &'static Functions, Work<'a>);
+
 fn main() -> ExitCode {
+    let front = std::env::args().nth(1).unwrap_or_default();
     let listed = listed_lines();
     let other = other_lines(&listed);
     let long = long_lines();
     let mut rows = step_rows();
+    rows.extend(watched_rows());
     rows.extend(text_rows(&listed, &other, &long));
+    rows.retain(|row| row.name.starts_with(&front));
+    if rows.is_empty() {
+        eprintln!("no row has a name that begins with {front}");
+        return ExitCode::FAILURE;
+    }
     for Row { name, desk, work } in rows {
-        match measure(&desk, work) {
-            Ok((ours, theirs)) => {
-                let (ours, theirs) = (ours.as_nanos(), theirs.as_nanos());
-                println!("{name}|{}|{ours}|{theirs}", work.items(&desk));
+        match measure(&desk, &sides(work)) {
+            Ok(times) => {
+                print!("{name}|{}", work.items(&desk));
+                times.iter().for_each(|time| print!("|{time}"));
+                println!();
             }
             Err(difference) => {
-                eprintln!("{name}: the two differ: {difference}");
+                eprintln!("{name}: they differ: {difference}");
                 return ExitCode::FAILURE;
             }
         }
@@ -67,24 +80,35 @@ fn main() -> ExitCode {
     ExitCode::SUCCESS
 }
 
-/// The best times of both, or what differs between what they leave.
-fn measure(desk: &Desk, work: Work) -> Result<(Duration, Duration), String> {
-    let (mut ours, mut theirs) = (Duration::MAX, Duration::MAX);
+/// The library and the emulator, and where the work has a list, the library without it.
+fn sides(work: Work) -> Vec<Side> {
+    let mut sides = vec![("ours", &LINKED, work), ("the emulator's", &THEIRS, work)];
+    let plain = work.without_list();
+    sides.extend(plain.map(|plain| ("ours without the list", &LINKED, plain)));
+    sides
+}
+
+/// The best time of each side in nanoseconds, or what differs between what two of them leave.
+fn measure(desk: &Desk, sides: &[Side]) -> Result<Vec<u128>, String> {
+    let mut best = vec![u128::MAX; sides.len()];
     for repetition in 0..REPETITIONS {
-        let (mut a, mut b) = (desk.clone(), desk.clone());
-        // Each goes first in turn, so that neither always finds the other's traces in the caches.
-        if repetition % 2 == 0 {
-            ours = ours.min(a.work(&LINKED, work));
-            theirs = theirs.min(b.work(&THEIRS, work));
-        } else {
-            theirs = theirs.min(b.work(&THEIRS, work));
-            ours = ours.min(a.work(&LINKED, work));
+        let mut desks = vec![desk.clone(); sides.len()];
+        // Each goes first in turn, so that none always finds another's traces in the caches. And each has each desk in turn, since they lie
+        // in memory in different ways: a journal whose slots lie across the lines of the caches is slower.
+        for turn in 0..sides.len() {
+            let side = (repetition + turn) % sides.len();
+            let (_, functions, work) = sides[side];
+            let time = desks[turn].work(functions, work);
+            best[side] = best[side].min(time.as_nanos());
         }
-        if let Some(difference) = a.difference(&b) {
-            return Err(difference);
+        desks.rotate_right(repetition % sides.len());
+        for ((name, ..), other) in sides.iter().zip(&desks).skip(1) {
+            if let Some(difference) = desks[0].difference(other) {
+                return Err(format!("ours and {name}: {difference}"));
+            }
         }
     }
-    Ok((ours, theirs))
+    Ok(best)
 }
 
 /// Rows of steps, step-backs and inputs, each without a journal where it needs none and with the longest.
@@ -171,6 +195,42 @@ fn inputs(slots: usize) -> Row<'static> {
         name: format!("inputs that are no steps, {slots} slots"),
         desk: Desk::new(programs::loaded(&[]), slots),
         work: Work::Inputs { rounds: 5_000 },
+    }
+}
+
+/// Rows of runs with lists of which no entry is met, with the longest journal: of a program that stores nothing, and of one that stores.
+fn watched_rows() -> Vec<Row<'static>> {
+    let mut rows = Vec::new();
+    let programs: [(&str, &[Part]); 2] = [
+        ("registers", programs::REGISTERS),
+        ("copied bytes", programs::COPY),
+    ];
+    let lists = [
+        ("no entry", 0),
+        ("1 entry", 1),
+        ("8 entries", 8),
+        ("64 entries", 64),
+    ];
+    for (name, program) in programs {
+        for (count, entries) in lists {
+            rows.push(watched_runs(name, program, count, entries));
+        }
+    }
+    rows
+}
+
+/// The steps of a program in long runs with a list.
+fn watched_runs(name: &str, program: &[Part], count: &str, entries: u16) -> Row<'static> {
+    Row {
+        name: format!("watched runs: {name}, {count}, {SLOTS} slots"),
+        desk: Desk {
+            list: programs::unmet(entries),
+            ..Desk::new(programs::loaded(program), SLOTS)
+        },
+        work: Work::WatchedRuns {
+            budget: u16::MAX,
+            calls: 4,
+        },
     }
 }
 

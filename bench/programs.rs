@@ -1,6 +1,7 @@
 //! The programs that are run. A line is an instruction, or a dot and a word as four hexadecimal digits; none of the programs ends.
 
 use crate::emulator;
+use crate::library::Entry;
 
 /// A part of a program: the address of its first line, and its lines.
 pub type Part = (usize, &'static [&'static str]);
@@ -181,6 +182,13 @@ pub fn loaded(program: &[Part]) -> Vec<u8> {
         }
     }
     ram
+}
+
+/// A list of so many entries for a watched run, breaks and watches in turn, at addresses of RAM that no program reaches or stores to.
+pub fn unmet(entries: u16) -> Vec<Entry> {
+    (0..entries)
+        .map(|place| [0x1000 + 226 * place, 1 + place % 2, 0])
+        .collect()
 }
 
 /// The word of a line.

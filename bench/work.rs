@@ -1,6 +1,6 @@
 //! What is measured: a desk, and work on it that either implementation does.
 
-use crate::library::{Call, Functions, State};
+use crate::library::{Call, Entry, Functions, State};
 use std::time::{Duration, Instant};
 
 /// The most bytes of a word's text.
@@ -12,6 +12,8 @@ pub struct Desk {
     pub state: State,
     pub ram: Vec<u8>,
     pub journal: Vec<u16>,
+    /// The breaks and watches of watched runs.
+    pub list: Vec<Entry>,
     /// All results, folded into one number.
     pub results: u64,
 }
@@ -25,6 +27,8 @@ pub enum Work<'a> {
         ticks: bool,
         calls: u32,
     },
+    /// Runs of a budget with the desk's list.
+    WatchedRuns { budget: u16, calls: u32 },
     /// Lone steps.
     Steps { calls: u32 },
     /// Rounds of step-backs over the whole journal; the steps that fill it are not timed.
@@ -58,6 +62,7 @@ impl Desk {
             state,
             ram,
             journal: vec![0x5555; 32 * slots],
+            list: Vec::new(),
             results: 0,
         }
     }
@@ -92,6 +97,9 @@ impl Desk {
                     self.call(functions, Call::Run(budget));
                 }
             }),
+            Work::WatchedRuns { budget, calls } => {
+                timed(|| self.watched_runs(functions, budget, calls))
+            }
             Work::Inputs { rounds } => timed(|| {
                 for _ in 0..rounds {
                     INPUTS.iter().for_each(|input| self.call(functions, *input));
@@ -103,6 +111,15 @@ impl Desk {
     fn repeat(&mut self, functions: &Functions, call: Call, times: u32) {
         for _ in 0..times {
             self.call(functions, call);
+        }
+    }
+
+    fn watched_runs(&mut self, functions: &Functions, budget: u16, calls: u32) {
+        for _ in 0..calls {
+            let (ram, journal) = (&mut self.ram, &mut self.journal);
+            let list = &mut self.list;
+            let result = functions.run_watched(&mut self.state, ram, journal, list, budget);
+            self.keep(result);
         }
     }
 
@@ -140,10 +157,7 @@ impl Desk {
     pub fn difference(&self, other: &Desk) -> Option<String> {
         let differ = |name: &str, a: &[u16], b: &[u16]| {
             let at = (0..a.len()).find(|i| a[*i] != b[*i])?;
-            Some(format!(
-                "{name} {at}: ours 0x{:04x}, theirs 0x{:04x}",
-                a[at], b[at]
-            ))
+            Some(format!("{name} {at}: 0x{:04x}, 0x{:04x}", a[at], b[at]))
         };
         let words = |bytes: &[u8]| {
             bytes
@@ -154,15 +168,30 @@ impl Desk {
         differ("state word", &self.state, &other.state)
             .or_else(|| differ("RAM byte", &words(&self.ram), &words(&other.ram)))
             .or_else(|| differ("journal word", &self.journal, &other.journal))
+            .or_else(|| differ("list word", &self.list.concat(), &other.list.concat()))
             .or_else(|| (self.results != other.results).then(|| "results".to_string()))
     }
 }
 
 impl Work<'_> {
+    /// Watched runs as runs without the list. They leave the same, since no entry of the list is met.
+    pub fn without_list(&self) -> Option<Work<'static>> {
+        match *self {
+            Work::WatchedRuns { budget, calls } => Some(Work::Runs {
+                budget,
+                ticks: false,
+                calls,
+            }),
+            _ => None,
+        }
+    }
+
     /// How many items the work has: steps, step-backs, inputs, words or lines.
     pub fn items(&self, desk: &Desk) -> u64 {
         match *self {
-            Work::Runs { budget, calls, .. } => u64::from(budget) * u64::from(calls),
+            Work::Runs { budget, calls, .. } | Work::WatchedRuns { budget, calls } => {
+                u64::from(budget) * u64::from(calls)
+            }
             Work::Steps { calls } => u64::from(calls),
             Work::StepBacks { rounds } => desk.journal.len() as u64 / 32 * u64::from(rounds),
             Work::Inputs { rounds } => INPUTS.len() as u64 * u64::from(rounds),

@@ -1,12 +1,13 @@
 //! The same machine twice, the library's between guards and the model's, and the comparison of the two after each call.
 
 use crate::guarded::Guarded;
-use crate::library::{Call, State, LINKED};
+use crate::library::{Call, Entry, State, LINKED};
 use crate::reference;
 use std::fmt::LowerHex;
 
 const BYTE_FILLER: u8 = 0xa7;
 const WORD_FILLER: u16 = 0xa7b9;
+const ENTRY_FILLER: Entry = [WORD_FILLER; 3];
 
 /// Both machines. Between calls they are equal.
 pub struct Desk {
@@ -16,6 +17,8 @@ pub struct Desk {
     model_state: State,
     model_ram: Vec<u8>,
     model_journal: Vec<u16>,
+    /// What the last watched run that was accepted left of its list.
+    list: Vec<Entry>,
 }
 
 impl Desk {
@@ -27,6 +30,7 @@ impl Desk {
             model_state: state,
             model_ram: ram,
             model_journal: journal,
+            list: Vec::new(),
         }
     }
 
@@ -40,6 +44,10 @@ impl Desk {
 
     pub fn journal(&self) -> &[u16] {
         &self.model_journal
+    }
+
+    pub fn list(&self) -> &[Entry] {
+        &self.list
     }
 
     pub fn set_state(&mut self, index: usize, word: u16) {
@@ -65,6 +73,24 @@ impl Desk {
         let (ram, journal) = (&mut self.model_ram, &mut self.model_journal);
         let models = reference::call(call, &mut self.model_state, ram, journal);
         settled(models, self.differences(ours, models))
+    }
+
+    /// Makes a watched run on both, with this list; the result, or what differs.
+    pub fn run_watched(&mut self, list: &[Entry], budget: u16) -> Result<u64, Vec<String>> {
+        let (ram, journal) = (self.ram.content_mut(), self.journal.content_mut());
+        let state = self.state.content_mut().try_into().expect("32 words");
+        let mut lent = Guarded::new(list, ENTRY_FILLER);
+        let ours = LINKED.run_watched(state, ram, journal, lent.content_mut(), budget);
+        let (state, ram) = (&mut self.model_state, &mut self.model_ram);
+        let mut models_list = list.to_vec();
+        let journal = &mut self.model_journal;
+        let models = reference::run_watched(state, ram, journal, &mut models_list, budget);
+        let mut found = self.differences(ours, models);
+        found.extend(list_differences(&lent, &models_list));
+        if models & 0xffff == 0 {
+            self.list = models_list;
+        }
+        settled(models, found)
     }
 
     fn differences(&self, ours: u64, models: u64) -> Vec<String> {
@@ -97,6 +123,22 @@ impl Desk {
         );
         found
     }
+}
+
+/// What differs between the list that was lent and the model's.
+fn list_differences(lent: &Guarded<Entry>, models: &[Entry]) -> Vec<String> {
+    let parts = ["address", "kind", "hits"];
+    let mut found = Vec::new();
+    found.extend(difference(
+        &lent.content().concat(),
+        &models.concat(),
+        |i| format!("{} of entry {}", parts[i % 3], i / 3),
+    ));
+    found.extend(
+        lent.broken()
+            .map(|place| format!("the list is written {place}")),
+    );
+    found
 }
 
 /// Lists a word with both, into so many bytes; the result, or what differs.

@@ -1,5 +1,6 @@
 //! A differential fuzzer: the model against the library of the C boundary, call by call. After each call the result, the state, RAM, the
-//! journal, and guards around each of them are compared; the first call after which something differs is told, and the status is 1.
+//! journal, the list of a watched run, and guards around each of them are compared; the first call after which something differs is told,
+//! and the status is 1.
 //!
 //! Usage: fuzz CALLS SEED
 
@@ -12,6 +13,7 @@ mod bus;
 #[path = "../model/src/cpu.rs"]
 mod cpu;
 mod desk;
+mod entries;
 mod guarded;
 #[path = "../model/src/journal.rs"]
 mod journal;
@@ -33,6 +35,9 @@ mod reference;
 mod scene;
 #[path = "../model/src/text.rs"]
 mod text;
+#[allow(dead_code)]
+#[path = "../model/src/watched.rs"]
+mod watched;
 
 #[cfg(standin)]
 extern crate mb50;
@@ -44,20 +49,27 @@ use programs::Programs;
 use random::Random;
 use std::process::ExitCode;
 
-/// The calls from which on every function and every refusal must have been met.
+/// The calls from which on every function, every refusal and every cause must have been met.
 const MANY: u64 = 100_000;
 
-/// The highest number of a refusal.
-const REFUSALS: usize = 14;
+/// The numbers of the refusals.
+const REFUSALS: [usize; 16] = [1, 2, 3, 4, 5, 6, 7, 8, 9, 10, 11, 12, 13, 14, 40, 41];
+
+/// The highest of them.
+const LAST: usize = REFUSALS[REFUSALS.len() - 1];
+
+/// Why a watched run ends, in the order of the cause's numbers.
+const CAUSES: [&str; 4] = ["budget", "halted", "watch", "break"];
 
 struct Fuzz {
     random: Random,
     programs: Programs,
     lines: Lines,
     calls: u64,
-    /// How often each function was accepted, and how often each refusal was met.
-    accepted: [u64; 11],
-    refused: [u64; REFUSALS + 1],
+    /// How often each function was accepted, how often each refusal was met by its number, and how often a watched run ended for each cause.
+    accepted: [u64; play::NAMES.len()],
+    refused: [u64; LAST + 1],
+    ended: [u64; CAUSES.len()],
 }
 
 fn main() -> ExitCode {
@@ -79,7 +91,7 @@ fn main() -> ExitCode {
     }
     fuzz.tell();
     if calls >= MANY && fuzz.is_narrow() {
-        println!("fuzz: a function was never accepted or a refusal never met");
+        println!("fuzz: a function was never accepted, a refusal never met, or a cause never told");
         return ExitCode::FAILURE;
     }
     println!("fuzz: {calls} calls, seed {seed}: no difference");
@@ -93,8 +105,9 @@ impl Fuzz {
             programs: Programs::new(),
             lines: Lines::new(),
             calls: 0,
-            accepted: [0; 11],
-            refused: [0; REFUSALS + 1],
+            accepted: [0; play::NAMES.len()],
+            refused: [0; LAST + 1],
+            ended: [0; CAUSES.len()],
         }
     }
 
@@ -134,12 +147,8 @@ impl Fuzz {
         let before = *desk.state();
         match play.make(desk) {
             Ok(result) => {
-                let number = (result & 0xffff) as usize;
-                match number {
-                    0 => self.accepted[play.number()] += 1,
-                    _ => self.refused[number] += 1,
-                }
-                Ok(number)
+                self.count(play, result);
+                Ok((result & 0xffff) as usize)
             }
             Err(differences) => {
                 let (ram, journal) = (desk.ram().len(), desk.journal().len());
@@ -151,21 +160,39 @@ impl Fuzz {
         }
     }
 
+    /// Notes what a call met.
+    fn count(&mut self, play: &Play, result: u64) {
+        match (result & 0xffff) as usize {
+            0 => self.accepted[play.number()] += 1,
+            number => self.refused[number] += 1,
+        }
+        if play.number() == play::WATCHED && result & 0xffff == 0 {
+            self.ended[(result >> 56) as usize % CAUSES.len()] += 1;
+        }
+    }
+
     /// Says what was met.
     fn tell(&self) {
-        let accepted = play::NAMES.iter().zip(self.accepted);
-        let accepted: Vec<String> = accepted
-            .map(|(name, count)| format!("{name} {count}"))
+        let refused: Vec<String> = REFUSALS
+            .iter()
+            .map(|number| format!("{number}: {}", self.refused[*number]))
             .collect();
-        let refused = (1..=REFUSALS).map(|number| format!("{number}: {}", self.refused[number]));
-        println!("accepted: {}", accepted.join(", "));
-        println!(
-            "refused by number: {}",
-            refused.collect::<Vec<_>>().join(", ")
-        );
+        println!("accepted: {}", counts(&play::NAMES, &self.accepted));
+        println!("watched runs ended: {}", counts(&CAUSES, &self.ended));
+        println!("refused by number: {}", refused.join(", "));
     }
 
     fn is_narrow(&self) -> bool {
-        self.accepted.contains(&0) || self.refused[1..].contains(&0)
+        let mut refused = REFUSALS.iter().map(|number| self.refused[*number]);
+        self.accepted.contains(&0) || self.ended.contains(&0) || refused.any(|count| count == 0)
     }
+}
+
+/// Each name with its count.
+fn counts(names: &[&str], counts: &[u64]) -> String {
+    let both = names.iter().zip(counts);
+    let told: Vec<String> = both
+        .map(|(name, count)| format!("{name} {count}"))
+        .collect();
+    told.join(", ")
 }

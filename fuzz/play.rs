@@ -1,20 +1,22 @@
 //! Which calls are made.
 
 use crate::desk::{self, Desk};
-use crate::library::Call;
+use crate::entries;
+use crate::library::{Call, Entry};
 use crate::lines::Lines;
 use crate::random::Random;
 use std::fmt;
 
-/// A call of any of the eleven functions.
+/// A call of any of the twelve functions.
 pub enum Play {
     OnMachine(Call),
+    Watched { list: Vec<Entry>, budget: u16 },
     List { word: u16, room: usize },
     Assemble(Vec<u8>),
 }
 
 /// The functions, in the order of `Play::number`.
-pub const NAMES: [&str; 11] = [
+pub const NAMES: [&str; 12] = [
     "step",
     "tick",
     "receive",
@@ -26,7 +28,11 @@ pub const NAMES: [&str; 11] = [
     "step_back",
     "list",
     "assemble",
+    "run_watched",
 ];
+
+/// Which of them is the watched run.
+pub const WATCHED: usize = 11;
 
 /// The calls that come next: mostly one, sometimes a burst of step-backs.
 pub fn next(random: &mut Random, desk: &Desk, lines: &Lines) -> Vec<Play> {
@@ -35,9 +41,11 @@ pub fn next(random: &mut Random, desk: &Desk, lines: &Lines) -> Vec<Play> {
         return vec![Play::OnMachine(revival(random))];
     }
     let call = match random.below(100) {
-        0..=29 => Call::Step,
-        30..=44 => Call::Run(budget(random)),
-        45..=60 => Call::StepBack,
+        0..=27 => Call::Step,
+        28..=37 => Call::Run(budget(random)),
+        38..=46 if halted && random.percent(80) => revival(random),
+        38..=46 => return vec![watched(random, desk)],
+        47..=60 => Call::StepBack,
         61..=62 => return burst(random, desk),
         63..=67 => Call::Tick,
         68..=72 => Call::Receive(random.byte()),
@@ -70,6 +78,14 @@ fn budget(random: &mut Random) -> u16 {
         360..=396 => random.below(1_200) as u16,
         397 | 398 => random.below(5_000) as u16,
         _ => u16::MAX,
+    }
+}
+
+/// A run with a list of breakpoints and watches.
+fn watched(random: &mut Random, desk: &Desk) -> Play {
+    Play::Watched {
+        list: entries::list(random, desk),
+        budget: budget(random),
     }
 }
 
@@ -133,6 +149,7 @@ impl Play {
     pub fn make(&self, desk: &mut Desk) -> Result<u64, Vec<String>> {
         match self {
             Play::OnMachine(call) => desk.call(*call),
+            Play::Watched { list, budget } => desk.run_watched(list, *budget),
             Play::List { word, room } => desk::list(*word, *room),
             Play::Assemble(line) => desk::assemble(line),
         }
@@ -152,6 +169,7 @@ impl Play {
             Play::OnMachine(Call::StepBack) => 8,
             Play::List { .. } => 9,
             Play::Assemble(_) => 10,
+            Play::Watched { .. } => WATCHED,
         }
     }
 }
@@ -168,6 +186,11 @@ impl fmt::Display for Play {
                 write!(f, " address 0x{address:04x} byte 0x{byte:02x}")
             }
             Play::OnMachine(Call::Run(budget)) => write!(f, " budget {budget}"),
+            Play::Watched { list, budget } => {
+                write!(f, " budget {budget} entries {}", list.len())?;
+                let mut entries = list.iter();
+                entries.try_for_each(|[at, kind, hits]| write!(f, " [{at:04x} {kind} {hits}]"))
+            }
             Play::List { word, room } => write!(f, " word 0x{word:04x} room {room}"),
             Play::Assemble(line) => write!(f, " line \"{}\"", line.escape_ascii()),
             Play::OnMachine(_) => Ok(()),

@@ -120,6 +120,9 @@ const CREEP: Source = &[
     "stob r1, r2",
 ];
 
+/// The opcodes of sto, stob and ddsto.
+const STORES: [u8; 3] = [0x15, 0x16, 0x17];
+
 const SOURCES: [Source; 6] = [STACK, COPY, ECHO, EXCEPTIONS, COMPUTE, CREEP];
 
 /// All that is put in RAM.
@@ -163,10 +166,11 @@ impl Programs {
         ram
     }
 
-    /// The bytes of an instruction, which is seldom illegal and often names one register twice.
+    /// The bytes of an instruction, which is seldom illegal, stores more often than by chance, and often names one register twice.
     pub fn instruction(&self, random: &mut Random) -> [u8; 2] {
         let opcode = match random.below(20) {
             0 => random.byte(),
+            1..=4 => random.pick(&STORES),
             _ => random.pick(&self.legal),
         };
         let operands = match random.below(8) {

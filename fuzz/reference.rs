@@ -1,9 +1,32 @@
 //! The model behind the C boundary: the same words in, the same words and result out.
 
-use crate::cpu::Cpu;
-use crate::library::{Call, State};
+use crate::cpu::{Cpu, PC};
+use crate::library::{self, Call, State};
 use crate::machine::{self, Answer, Cause, Machine};
 use crate::text;
+use crate::watched::{self, Stop, Told};
+
+/// Where pc is before each of some steps and after the last, and the addresses that they store to.
+pub struct Path {
+    pub pcs: Vec<u16>,
+    pub stored: Vec<u16>,
+}
+
+/// The path of so many steps, which are taken on a copy; fewer where the machine halts.
+pub fn path(state: &State, ram: &[u8], steps: usize) -> Path {
+    let (mut cpu, mut ram) = (read(state).cpu, ram.to_vec());
+    let mut path = Path {
+        pcs: vec![cpu.registers[PC]],
+        stored: Vec::new(),
+    };
+    while path.pcs.len() <= steps && !cpu.halted {
+        let written = cpu.step(&mut ram).written;
+        let addresses = (0..written.count).map(|offset| written.first.wrapping_add(offset));
+        path.stored.extend(addresses);
+        path.pcs.push(cpu.registers[PC]);
+    }
+    path
+}
 
 /// Makes a call on the model's machine.
 pub fn call(call: Call, state: &mut State, ram: &mut [u8], journal: &mut [u16]) -> u64 {
@@ -13,6 +36,26 @@ pub fn call(call: Call, state: &mut State, ram: &mut [u8], journal: &mut [u16]) 
         write(&machine, state);
     }
     result(call, &answer)
+}
+
+/// Makes a watched run on the model's machine.
+pub fn run_watched(
+    state: &mut State,
+    ram: &mut [u8],
+    journal: &mut [u16],
+    list: &mut [library::Entry],
+    budget: u16,
+) -> u64 {
+    let mut machine = read(state);
+    let mut entries: Vec<watched::Entry> = list.iter().map(entry).collect();
+    let told = watched::run(&mut machine, ram, journal, &mut entries, budget);
+    for (words, entry) in list.iter_mut().zip(entries) {
+        *words = [entry.address, entry.kind, entry.hits];
+    }
+    if told.number == 0 {
+        write(&machine, state);
+    }
+    watched_result(&told)
 }
 
 /// Lists a word: the number, then the text's length.
@@ -71,6 +114,28 @@ fn result(call: Call, answer: &Answer) -> u64 {
     };
     let cause = u64::from(answer.cause == Cause::Halted);
     u64::from(answer.number) | steps << 16 | u64::from(answer.bus) << 32 | cause << 56
+}
+
+/// The entry of three words.
+fn entry(words: &library::Entry) -> watched::Entry {
+    let [address, kind, hits] = *words;
+    watched::Entry {
+        address,
+        kind,
+        hits,
+    }
+}
+
+/// As of a run, but for bits 56–57, the cause, and 58–63, the place of the entry that is named.
+fn watched_result(told: &Told) -> u64 {
+    let (cause, place) = match told.stop {
+        Stop::None | Stop::Budget => (0, 0),
+        Stop::Halted => (1, 0),
+        Stop::Watch(place) => (2, place as u64),
+        Stop::Break(place) => (3, place as u64),
+    };
+    let counts = u64::from(told.steps) << 16 | u64::from(told.bus) << 32;
+    u64::from(told.number) | counts | cause << 56 | place << 58
 }
 
 fn translated(call: Call) -> machine::Call {

@@ -1,13 +1,13 @@
 //! A library with the boundary's names over the benchmark's emulator, to stand in for the proved one: the harness and the fuzzer can be tried
 //! without it, the fuzzer tests the emulator itself, and a copy with a fault shows that the fuzzer finds faults.
 //!
-//! `MB50_BROKEN`, when this is compiled, names the fault: `flag`, `journal`, `guard` or `state`. Each shows only now and then.
+//! `MB50_BROKEN`, when this is compiled, names the fault: `flag`, `journal`, `guard`, `state`, `watch` or `hits`. Each shows only now and then.
 
 #[path = "../bench/emulator/mod.rs"]
 #[allow(dead_code)]
 mod emulator;
 
-use emulator::boundary;
+use emulator::{boundary, Entry};
 use std::slice::{from_raw_parts, from_raw_parts_mut};
 
 /// The fault of this copy.
@@ -94,6 +94,59 @@ pub unsafe extern "C" fn mb50_step_back(
         *state.add(31) = last;
     }
     result
+}
+
+/// # Safety
+/// The boundary's own terms.
+#[no_mangle]
+pub unsafe extern "C" fn mb50_run_watched(
+    state: *mut u16,
+    ram: *mut u8,
+    n: usize,
+    journal: *mut u16,
+    m: usize,
+    list: *mut Entry,
+    entries: usize,
+    budget: u16,
+) -> u64 {
+    let before = from_raw_parts(list, entries).to_vec();
+    let result = boundary::run_watched(state, ram, n, journal, m, list, entries, budget);
+    if BROKEN.is_empty() || result & 0xffff != 0 {
+        return result;
+    }
+    let (state, journal) = (from_raw_parts(state, 32), from_raw_parts(journal, m));
+    let list = from_raw_parts_mut(list, entries);
+    match (BROKEN, result >> 56 & 3) {
+        ("hits", BY_BUDGET) => count_breaks(state[15], list),
+        ("watch", BY_WATCH) if !meets_first(state, journal, list) => {
+            list.copy_from_slice(&before);
+            return result & 0x00ff_ffff_ffff_ffff;
+        }
+        _ => {}
+    }
+    result
+}
+
+/// Why a watched run stopped, as its result has it.
+const BY_BUDGET: u64 = 0;
+const BY_WATCH: u64 = 2;
+
+/// A fault of the watched run: breaks where the budget ended are counted.
+fn count_breaks(pc: u16, list: &mut [Entry]) {
+    for entry in list.iter_mut().filter(|entry| entry[..2] == [pc, 1]) {
+        entry[2] = entry[2].saturating_add(1);
+    }
+}
+
+/// Another: only the first byte of a store is looked for, which the newest record has. Without a journal the fault does not show.
+fn meets_first(state: &[u16], journal: &[u16], list: &[Entry]) -> bool {
+    let slots = journal.len() / 32;
+    if slots == 0 {
+        return true;
+    }
+    let newest = (usize::from(state[25]) + slots - 1) % slots;
+    let first = journal[32 * newest + 26];
+    list.iter().any(|entry| entry[..2] == [first, 2])
 }
 
 /// # Safety

@@ -4,8 +4,9 @@
  *             26 records held; 27-31 not read, written as 0. The starting state is all 0 but word 24, which is 2.
  * ram, n      n bytes of RAM, at most 65504
  * journal, m  m words: slots of 32 words, at most 1024 of them, or none
+ * list, entries  so many breakpoints and watches, at most 64
  * result      bits 0-15: the refusal's number, 0 if accepted; 16-31: the steps of a run; 32-55: bus bytes of a step or a run; 56-63: a run's cause,
- *             0 budget used up, 1 halted. On a refusal all else is 0, and state, RAM and journal stay as given.
+ *             0 budget used up, 1 halted. On a refusal all else is 0, and state, RAM, journal and list stay as given.
  *
  * A caller owes: no pointer is null, also not that of no elements; each points to as many elements as the length after it says, and state to 32;
  * what is lent in one call does not overlap; words are aligned to 2 bytes; nobody else reads or writes what is lent until the call has returned.
@@ -29,6 +30,14 @@ uint64_t mb50_poke(uint16_t *state, uint8_t *ram, size_t n, uint16_t *journal, s
 uint64_t mb50_reset(uint16_t *state, uint8_t *ram, size_t n, uint16_t *journal, size_t m);
 uint64_t mb50_run(uint16_t *state, uint8_t *ram, size_t n, uint16_t *journal, size_t m, uint16_t budget);
 uint64_t mb50_step_back(uint16_t *state, uint8_t *ram, size_t n, uint16_t *journal, size_t m);
+
+/* A breakpoint (kind 1) or a watch (kind 2), and how often it stopped a run; the count stops at 65535. */
+typedef struct { uint16_t address, kind, hits; } mb50_entry;
+
+/* A run that stops also before a step with pc at a break's address, the first step excepted, and after a step that stored to a watch's. It counts the hits in
+ * the list. Bits 56-57 of the result are the cause: 0 budget used up, 1 halted, 2 watch, 3 break; bits 58-63 the place in the list, from 0, of the first
+ * entry that stopped it, or 0. */
+uint64_t mb50_run_watched(uint16_t *state, uint8_t *ram, size_t n, uint16_t *journal, size_t m, mb50_entry *list, size_t entries, uint16_t budget);
 
 /* Writes an instruction's text to out, which has n bytes; bits 16-31 of the result are the text's length. 16 bytes are enough for any. */
 uint64_t mb50_list(uint16_t word, uint8_t *out, size_t n);

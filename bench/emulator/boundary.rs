@@ -2,7 +2,7 @@
 //!
 //! Each is safe to call under the boundary's own terms: the state has 32 words, each slice its length, and no pointer is null.
 
-use super::State;
+use super::{Entry, State};
 use std::slice::{from_raw_parts, from_raw_parts_mut};
 
 /// A C function over the emulator's function of the same name, with what its call takes beside state, RAM and journal.
@@ -34,6 +34,29 @@ call!(poke, address: u16, byte: u8);
 call!(reset);
 call!(run, budget: u16);
 call!(step_back);
+
+/// # Safety
+/// The boundary's own terms.
+pub unsafe extern "C" fn run_watched(
+    state: *mut u16,
+    ram: *mut u8,
+    n: usize,
+    journal: *mut u16,
+    m: usize,
+    list: *mut Entry,
+    entries: usize,
+    budget: u16,
+) -> u64 {
+    let state = &mut *state.cast::<State>();
+    let (ram, journal) = (from_raw_parts_mut(ram, n), from_raw_parts_mut(journal, m));
+    super::run_watched(
+        state,
+        ram,
+        journal,
+        from_raw_parts_mut(list, entries),
+        budget,
+    )
+}
 
 /// # Safety
 /// The boundary's own terms.

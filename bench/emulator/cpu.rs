@@ -4,7 +4,7 @@ use super::alu;
 
 const IA: usize = 13;
 pub const F: usize = 14;
-const PC: usize = 15;
+pub const PC: usize = 15;
 
 const IE: u16 = 0x0100;
 pub const EXC: u16 = 0x0200;

@@ -8,9 +8,11 @@ mod cpu;
 pub mod image;
 mod mnemonics;
 mod text;
+mod watch;
 
-use cpu::{Cpu, Written, EXC, F, HALTED, R, T};
+use cpu::{Cpu, Effect, Written, EXC, F, HALTED, R, T};
 pub use text::{assemble, list};
+pub use watch::Entry;
 
 /// The state as it crosses the boundary.
 pub type State = [u16; 32];
@@ -79,15 +81,15 @@ impl Machine {
         Some(slot)
     }
 
-    /// One step with its record; its bus bytes.
+    /// One step with its record.
     #[inline(always)]
-    fn step(&mut self, ram: &mut [u8], journal: &mut [u16]) -> u32 {
+    fn step(&mut self, ram: &mut [u8], journal: &mut [u16]) -> Effect {
         let slot = self.record(journal, Written::NOTHING);
         let effect = self.cpu.step(ram);
         if let Some(slot) = slot {
             note(slot, effect.written);
         }
-        effect.bus
+        effect
     }
 
     fn is_halted(&self) -> bool {
@@ -99,7 +101,7 @@ impl Machine {
     fn run(&mut self, ram: &mut [u8], journal: &mut [u16], budget: u16) -> u64 {
         let (mut steps, mut bus) = (0u64, 0u64);
         while steps < u64::from(budget) && !self.is_halted() {
-            bus += u64::from(self.step(ram, journal));
+            bus += u64::from(self.step(ram, journal).bus);
             steps += 1;
         }
         steps << 16 | bus << 32 | u64::from(self.is_halted()) << 56
@@ -178,7 +180,7 @@ pub fn step(state: &mut State, ram: &mut [u8], journal: &mut [u16]) -> u64 {
         if machine.is_halted() {
             return Err(4);
         }
-        Ok(u64::from(machine.step(ram, journal)) << 32)
+        Ok(u64::from(machine.step(ram, journal).bus) << 32)
     })
 }
 
@@ -266,6 +268,19 @@ pub fn run(state: &mut State, ram: &mut [u8], journal: &mut [u16], budget: u16) 
         } else {
             machine.run_recorded(ram, journal, budget)
         })
+    })
+}
+
+pub fn run_watched(
+    state: &mut State,
+    ram: &mut [u8],
+    journal: &mut [u16],
+    list: &mut [Entry],
+    budget: u16,
+) -> u64 {
+    call(state, ram, journal, |machine, ram, journal| {
+        watch::check(list)?;
+        Ok(machine.run_watched(ram, journal, list, budget))
     })
 }
 

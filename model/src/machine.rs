@@ -138,7 +138,7 @@ impl Machine {
     }
 
     /// What every call checks first.
-    fn refusal_of_any_call(&self, ram: &[u8], journal: &[u16]) -> Option<u16> {
+    pub fn refusal_of_any_call(&self, ram: &[u8], journal: &[u16]) -> Option<u16> {
         if ram.len() > LONGEST_RAM {
             Some(LONG_RAM)
         } else if journal.len() % RECORD != 0 || journal.len() > LONGEST {
@@ -217,7 +217,7 @@ impl Machine {
     }
 
     /// One step with its record: "a run writes one for each step".
-    fn recorded_step(&mut self, ram: &mut [u8], journal: &mut [u16]) -> Effect {
+    pub fn recorded_step(&mut self, ram: &mut [u8], journal: &mut [u16]) -> Effect {
         let before = self.cpu;
         let effect = self.cpu.step(ram);
         self.record(&before, &effect.written, journal);

@@ -11,6 +11,7 @@ mod names;
 mod opcode;
 mod text;
 mod vectors;
+mod watched;
 
 use std::io::{self, Read, Write};
 use std::process::ExitCode;
@@ -35,8 +36,8 @@ fn main() -> ExitCode {
         ["text-output"] => write(lines::output().as_bytes()),
         ["steps-input"] => write(&steps::input()),
         ["steps-output"] => write(steps::output().as_bytes()),
-        ["calls-input"] => write(&calls::input()),
-        ["calls-output"] => write(calls::output().as_bytes()),
+        ["calls-input"] => write(&calls::all_input()),
+        ["calls-output"] => write(calls::all_output().as_bytes()),
         ["listing"] => list_standard_input(),
         ["listing-case", number] => write_case(number),
         _ => failed(USAGE),

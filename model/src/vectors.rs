@@ -5,13 +5,17 @@ pub mod calls;
 mod desk;
 mod edges;
 mod faults;
+mod hunts;
 pub mod images;
 pub mod isa;
 pub mod lines;
+mod points;
 mod programs;
 mod script;
 pub mod steps;
+mod stops;
 mod walks;
+pub mod watches;
 
 /// A digest of a series of numbers: it starts at 1, and absorbing `x` makes it
 /// `(h * 65599 + x) mod 4294967291`.

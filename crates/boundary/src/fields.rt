@@ -12,7 +12,7 @@ ghost use Rattle.calls.specs.Calls.{W, causeIs, saidBy};
 ghost use Rattle.text.specs.Answer.{listedAs, assembledAs};
 ghost use Rattle.boundary.specs.Boundary.{packed, causeNumber, resultOf, listed as listedBy, assembled as assembledBy};
 
-fn pack(number: u8, steps: u16, bus: u32, cause: u8) -> u64
+pub fn pack(number: u8, steps: u16, bus: u32, cause: u8) -> u64
     ensures { λ r. ⌜ r ≡ packed number steps bus cause ⌝ }
 {
     (number as u64)

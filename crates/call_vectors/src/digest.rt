@@ -5,6 +5,9 @@ use calls::state::Machine;
 use calls::state::Refusal;
 use calls::state::Run;
 use calls::state::Stop;
+use entries::Points;
+use watching::Ending;
+use watching::Told;
 use word::choice;
 use word::halves;
 
@@ -83,4 +86,29 @@ fn left(h: u64, m: Machine) -> u64 {
 
 pub fn called(h: u64, answer: Answer, m: Machine) -> u64 {
     left(answered(h, answer), m)
+}
+
+fn ended(ending: Ending) -> u16 {
+    match ending {
+        Ending::Refused => 0,
+        Ending::Budget => 1,
+        Ending::Halted => 2,
+        Ending::Watch => 3,
+        Ending::Break => 4,
+    }
+}
+
+pub fn ended_run(h: u64, number: u8, told: Told, m: Machine) -> u64 {
+    let ending = told.ending;
+    let why = numbers(h, number as u16, told.steps, told.bus, ended(ending));
+    left(report::absorb(why, (told.place % 65536) as u16), m)
+}
+
+// All 64 entries, lent or not.
+pub fn listed(h: u64, p: Points, hits: &[u16]) -> u64 {
+    let addresses = p.addresses;
+    let kinds = p.kinds;
+    let count = report::absorb(h, (p.count % 65536) as u16);
+    let a = words(count, &addresses);
+    words(words(a, &kinds), hits)
 }

@@ -2,6 +2,7 @@
 mod buffers;
 mod commands;
 mod digest;
+mod lists;
 mod requests;
 mod settings;
 mod state;
@@ -13,10 +14,10 @@ ghost use mathlib.Core.Path.{_≡_};
 ghost use lib.ListN.{length};
 
 // Of each of the three rooms the `ensures` gives only the length, so that no proof writes the zeros out.
-fn input_room() -> [u8; 270000]
-    ensures { λ r. ⌜ 270000 ≡ length r ⌝ }
+fn input_room() -> [u8; 400000]
+    ensures { λ r. ⌜ 400000 ≡ length r ⌝ }
 {
-    [0u8; 270000]
+    [0u8; 400000]
 }
 
 fn ram_room() -> [u8; 65536]
@@ -34,6 +35,12 @@ fn journal_room() -> [u16; 33000]
 fn obeyed(d: Desk, c: Command, ram: &mut [u8], journal: &mut [u16]) -> Desk {
     if c.kind < 9 {
         return requests::made(d, c, ram, journal);
+    }
+    if c.kind == 20 {
+        return requests::run_points(d, c, ram, journal);
+    }
+    if 20 < c.kind {
+        return lists::arranged(d, c);
     }
     settings::arranged(d, c, ram, journal)
 }

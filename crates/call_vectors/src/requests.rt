@@ -1,6 +1,7 @@
-// Kinds 0 to 8: the calls on the machine, on the lent parts of the buffers.
+// Kinds 0 to 8 and 20: the calls on the machine, on the lent parts of the buffers.
 use crate::commands::Command;
 use crate::digest;
+use crate::lists;
 use crate::state;
 use crate::state::Desk;
 use machine::Call;
@@ -27,9 +28,36 @@ pub fn made(d: Desk, c: Command, ram: &mut [u8], journal: &mut [u16]) -> Desk {
     let r = machine::answer(asked(c), m, &mut ram[0..bytes], &mut journal[0..words]);
     let answer = r.answer;
     let machine = r.machine;
+    let points = d.points;
+    let hits = d.hits;
     Desk {
         machine,
+        points,
+        hits,
         digest: digest::called(d.digest, answer, machine),
+        ram: d.ram,
+        journal: d.journal,
+        line: d.line,
+    }
+}
+
+pub fn run_points(d: Desk, c: Command, ram: &mut [u8], journal: &mut [u16]) -> Desk {
+    let bytes = state::lent(d.ram, ram.len());
+    let words = state::lent(d.journal, journal.len());
+    let m = d.machine;
+    let points = d.points;
+    let before = d.hits;
+    let r = watched::run_points(m, &mut ram[0..bytes], &mut journal[0..words], points, c.a);
+    let machine = r.machine;
+    let told = r.told;
+    let met = told.met;
+    let hits = lists::marked(points, before, met);
+    let h = digest::ended_run(d.digest, r.number, told, machine);
+    Desk {
+        machine,
+        points,
+        hits,
+        digest: digest::listed(h, points, &hits),
         ram: d.ram,
         journal: d.journal,
         line: d.line,

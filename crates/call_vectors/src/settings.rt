@@ -1,4 +1,4 @@
-// Kinds from 9 on, which arrange what the calls find; above 19 they do nothing.
+// Kinds 9 to 19, which arrange what the calls find.
 use crate::buffers;
 use crate::commands::Command;
 use crate::digest;
@@ -90,8 +90,11 @@ fn started(d: Desk, from: u8, ram: &mut [u8], journal: &mut [u16]) -> Desk {
     buffers::fill(ram, from);
     buffers::clear(journal);
     let machine = calls::state::start();
+    let points = entries::none();
     Desk {
         machine,
+        points,
+        hits: [0u16; 64],
         digest: 1,
         ram: d.ram,
         journal: d.journal,
@@ -99,7 +102,7 @@ fn started(d: Desk, from: u8, ram: &mut [u8], journal: &mut [u16]) -> Desk {
     }
 }
 
-// A line, from whose digest the next goes on. The lines are fewer than the commands, which are fewer than 65,536.
+// A line, from whose digest the next goes on. There are fewer than 65,536 lines.
 fn shown(d: Desk, ram: &[u8], journal: &[u16]) -> Desk {
     let bytes = state::lent(d.ram, ram.len());
     let words = state::lent(d.journal, journal.len());
@@ -110,8 +113,12 @@ fn shown(d: Desk, ram: &[u8], journal: &[u16]) -> Desk {
     report::hex(h, 8);
     report::end();
     let machine = d.machine;
+    let points = d.points;
+    let hits = d.hits;
     Desk {
         machine,
+        points,
+        hits,
         digest: h,
         ram: d.ram,
         journal: d.journal,

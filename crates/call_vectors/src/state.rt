@@ -1,10 +1,13 @@
 // What stays from command to command, beside the buffers.
 use calls::state::Machine;
+use entries::Points;
 ghost use Prim.Native.Nat.{_≤_};
 
-// The lengths are of the parts that are lent, from the beginnings of the buffers.
+// The list is addresses and kinds, with the hits beside them. The lengths are of the parts that are lent, from the beginnings of the buffers.
 pub struct Desk {
     pub machine: Machine,
+    pub points: Points,
+    pub hits: [u16; 64],
     pub digest: u64,
     pub ram: u16,
     pub journal: u16,
@@ -14,8 +17,11 @@ pub struct Desk {
 // Before the first command.
 pub fn opened() -> Desk {
     let machine = calls::state::start();
+    let points = entries::none();
     Desk {
         machine,
+        points,
+        hits: [0u16; 64],
         digest: 1,
         ram: 0,
         journal: 0,

@@ -19,15 +19,21 @@ use Rattle.calls.specs.Inputs.{Input, step, box, nextOf, machine}
 use Rattle.calls.specs.Calls.{W, checkOf, answerOf, worldOf, started}
 use Rattle.calls.specs.declared.state.Machine.{Machine as MachineT}
 use Rattle.boundary.specs.Boundary.{startWords, taken, given, packed, runSteps, resultOf, Crossed, crossed}
+use Rattle.entries.specs.declared.Entry.{Entry}
+use Rattle.watched.specs.Answer.{Watched, watchedOf, asRun}
+use Rattle.crossing.specs.Crossing.{watchedResult, CrossedList, crossedWith, CrossesWatched}
+use Rattle.history.proofs.Exact.{Apt}
 use Rattle.exact.specs.Demand3.{Allowed, Made, Chain, ended}
 use Rattle.exact.specs.Fields.{Budgeted}
-use Rattle.exact.specs.Boundary3.{numberIn, stepsIn, Owned, meant, Kept, Exported, Exports, owned}
+use Rattle.exact.specs.Boundary3.{numberIn, stepsIn, Owned, meant, Kept, Exported, exported, watching, called, resultIn, ownedAfter}
+use Rattle.exact.specs.Boundary3.{Promised, Exports, owned}
 use Rattle.exact.specs.Boundary3.{leftOver, leftIn, startOwned, ownedAtEnd, Demand3Across}
-use Rattle.exact.proofs.Records.{reads-undo}
-use Rattle.exact.proofs.Lawful.{roomy}
+use Rattle.exact.proofs.Records.{FineUndo, reads-undo}
+use Rattle.exact.proofs.Lawful.{roomy, ruly}
 use Rattle.exact.proofs.Counts.{journal, counts}
 use Rattle.exact.proofs.Places.{stays}
 use Rattle.exact.proofs.Played.{P, at, playing, starting, AptCalls, apt, plays, Reached, reached}
+use Rattle.exact.proofs.Stands.{stands, unmoved, few-steps, small-number}
 use Rattle.exact.proofs.Seen.{calls, all-apt, played}
 
 -- "The starting state is all words 0 but word 24, which is 2": it is the rules' own
@@ -68,11 +74,11 @@ words-mean m ws xs ok ch =
     gives-back (subst (λ (p : P). Reached (p .world)) e (reached m ws (calls xs) ok (all-apt started m ws xs ch)))
 
 -- ---- the fields of a result
-number-field : (n s b k : ℕ) → n ≤ 9 → s ≤ 65535 → numberIn (packed n s b k) ≡ n
+number-field : (n s b k : ℕ) → n ≤ 65535 → s ≤ 65535 → numberIn (packed n s b k) ≡ n
 unfolding packed
 number-field n s b k l h = omega arith
 
-steps-field : (n s b k : ℕ) → n ≤ 9 → s ≤ 65535 → stepsIn (packed n s b k) ≡ s
+steps-field : (n s b k : ℕ) → n ≤ 65535 → s ≤ 65535 → stepsIn (packed n s b k) ≡ s
 unfolding packed
 steps-field n s b k l h = omega arith
 
@@ -116,6 +122,24 @@ module _ (n : ℕ) (l : Left Input) where
   told-left (run k) w = run-left k (checkOf w) w (ran machine journal k w) (run-steps _ k w)
   told-left back w = back-left (answerOf back w .number) _ _
 
+-- ---- what an answer leaves over the boundary
+module _ (a : Answer Cpu Ring) (o o′ : Owned) (words-are : cond (eqb (a .number) 0) (givenOf (a .world)) (o .words) ≡ o′ .words)
+    (ram-is : a .world .box .ram ≡ o′ .ram) (journal-is : a .world .journal .words ≡ o′ .journal) where
+  -- the answer's memory and journal, with any machine
+  abbrev beside : MachineT → W
+  beside x = worldOf x (a .world .box .ram) (a .world .journal .words)
+
+  meant-same : {w v : List ℕ} → w ≡ v → beside (taken w) ≡ worldOf (taken v) (o′ .ram) (o′ .journal)
+  meant-same e = rw (e, ram-is, journal-is)
+
+  -- the words mean what the answer leaves: those of an accepted call were given for it, and a refused call changes nothing
+  world-kept : Reached (a .world) → ((a .number ≡ 0 → ⊥) → a .world ≡ meant o) → a .world ≡ meant o′
+  world-kept h unmoved = go (eqb (a .number) 0) refl
+    where
+      go : (t : Bool) → eqb (a .number) 0 ≡ t → a .world ≡ meant o′
+      go true e = ap beside (sym (gives-back h)) ∙ meant-same (rw e at words-are)
+      go false e = ap (λ (w : W). beside (machineOf w)) (unmoved (eqb-false (a .number) 0 e)) ∙ meant-same (rw e at words-are)
+
 -- ---- one call over the boundary
 module _ (c : Call Input) (o : Owned) (r : ℕ) (o′ : Owned) (k : Kept c o r o′) where
   abbrev a : Answer Cpu Ring
@@ -147,56 +171,91 @@ module _ (c : Call Input) (o : Owned) (r : ℕ) (o′ : Owned) (k : Kept c o r o
 
   -- bits 0–15 are the number of the answer
   number-is : Budgeted c → numberIn r ≡ answerOf c (meant o) .number
-  number-is b = ap numberIn result-is ∙ number-field (a .number) _ _ _ (counts c (meant o) b .number) (run-few b)
+  number-is b = ap numberIn result-is ∙ number-field (a .number) _ _ _ (omega (arith, counts c (meant o) b .number)) (run-few b)
 
   -- what is left, by the result's number and steps, is what is left by the answer's
   left-is : (n : ℕ) (l : Left Input) → Budgeted c → leftWith n l c (numberIn r) (stepsIn r) ≡ leftWith n l c (a .number) (a .steps)
   left-is n l b =
       ap (λ (x : ℕ). leftWith n l c x (stepsIn r)) (number-is b)
-      ∙ ap (leftWith n l c (a .number)) (ap stepsIn result-is ∙ steps-field (a .number) _ _ _ (counts c (meant o) b .number) (run-few b))
+      ∙ ap (leftWith n l c (a .number)) (ap stepsIn result-is ∙ steps-field (a .number) _ _ _ (omega (arith, counts c (meant o) b .number)) (run-few b))
       ∙ told-left n l c (meant o)
 
-  -- the answer's memory and journal, with any machine
-  abbrev beside : MachineT → W
-  beside x = worldOf x (a .world .box .ram) (a .world .journal .words)
-
-  -- the words mean what the answer leaves: those of an accepted call were given for it, and a refused call changes nothing
   world-is : Reached (a .world) → a .world ≡ meant o′
-  world-is h = go (eqb (a .number) 0) refl
-    where
-      meant-same : {w v : List ℕ} → w ≡ v → beside (taken w) ≡ worldOf (taken v) (o′ .ram) (o′ .journal)
-      meant-same e = rw (e, ram-is, journal-is)
+  world-is h = world-kept a o o′ words-are ram-is journal-is h (stays c (meant o))
 
-      go : (t : Bool) → eqb (a .number) 0 ≡ t → a .world ≡ meant o′
-      go true e = ap beside (sym (gives-back h)) ∙ meant-same (rw e at words-are)
-      go false e =
-          ap (λ (w : W). beside (machineOf w)) (stays c (meant o) (eqb-false (a .number) 0 e)) ∙ meant-same (rw e at words-are)
+-- ---- one watched run over the boundary
+module _ (n : ℕ) (l : List Entry) (o : Owned) (r : ℕ) (o′ : Owned) (l′ : List Entry) (few : n ≤ 65535)
+    (k : CrossesWatched n (o .words) (o .ram) (o .journal) l r (o′ .words) (o′ .ram) (o′ .journal) l′) where
+  abbrev w : Watched
+  w = watchedOf n l (meant o)
+
+  watched-result : r ≡ watchedResult w
+  unfolding crossedWith
+  watched-result = sym (ap (λ (x : CrossedList). x .crossed .result) k)
+
+  watched-number : numberIn r ≡ w .number
+  watched-number =
+      let s = few-steps n l (meant o) in
+      ap numberIn watched-result ∙ number-field (w .number) _ _ _ (omega (arith, small-number n l (meant o))) (omega (arith, s, few))
+
+  watched-steps : stepsIn r ≡ w .steps
+  watched-steps =
+      let s = few-steps n l (meant o) in
+      ap stepsIn watched-result ∙ steps-field (w .number) _ _ _ (omega (arith, small-number n l (meant o))) (omega (arith, s, few))
+
+  watched-world : Reached (w .world) → w .world ≡ meant o′
+  unfolding crossedWith crossed
+  watched-world h =
+      world-kept (asRun w) o o′ (ap (λ (x : CrossedList). x .crossed .words) k) (ap (λ (x : CrossedList). x .crossed .ram) k)
+      (ap (λ (x : CrossedList). x .crossed .journal) k) h (unmoved n l (meant o))
 
 -- ---- a list of calls over the boundary
+-- the call that the rules play for it: of a watched run the plain run of its own steps
+abbrev stood : Exported → Call Input
+stood (exported c r o) = c
+stood (watching n l r o l′) = run (stepsIn r)
+
 abbrev named : List Exported → List (Call Input)
-named xs = map (λ (x : Exported). x .call) xs
+named xs = map stood xs
+
+stood-apt : (o : Owned) (x : Exported) → Promised o x → Apt machine FineUndo ruly (stood x)
+stood-apt o (exported c r o′) k = apt c (k .0 .0)
+stood-apt o (watching n l r o′ l′) k = tt
 
 named-apt : (o : Owned) (xs : List Exported) → Exports o xs → AptCalls (named xs)
 named-apt o [] ch = tt
-named-apt o (x ∷ xs) ch = (apt (x .call) (ch .0 .0), named-apt (x .after) xs (ch .2))
+named-apt o (x ∷ xs) ch = (stood-apt o x (ch .0), named-apt (ownedAfter x) xs (ch .1))
 
 -- whatever is called from here on, what it reaches is good
 abbrev Ever : ℕ → P → Type 0
 Ever n p = (cs : List (Call Input)) → AptCalls cs → Reached (playing n cs p .world)
+
+abbrev plays-one : ℕ → Call Input → P → P
+plays-one n c p = one machine journal checkOf (upTo n) c p
+
+-- the rules' play of one call is what the words, RAM and journal mean
+crosses-one : (n : ℕ) (o : Owned) (l : Left Input) (x : Exported) → Promised o x → Reached (plays-one n (stood x) (at (meant o) l) .world) →
+    plays-one n (stood x) (at (meant o) l) ≡ at (meant (ownedAfter x)) (leaves (upTo n) step (called x) (numberIn (resultIn x)) (stepsIn (resultIn x)) l)
+crosses-one n o l (exported c r o′) k h =
+    ap (at (answerOf c (meant o) .world)) (sym (left-is c o r o′ (k .1) n l (k .0 .1)))
+    ∙ ap (λ (v : W). at v (leftWith n l c (numberIn r) (stepsIn r))) (world-is c o r o′ (k .1) h)
+crosses-one n o l (watching b es r o′ es′) k h =
+    let s = watched-steps b es o r o′ es′ (k .0) (k .1) in
+    let p : plays-one n (run (stepsIn r)) (at (meant o) l) ≡ at (watchedOf b es (meant o) .world) (leftWith n l (run b) (watchedOf b es (meant o) .number)
+    (watchedOf b es (meant o) .steps)) =
+    ap (λ (i : ℕ). plays-one n (run i) (at (meant o) l)) s ∙ stands b es (meant o) n l
+    in
+    let v = watched-world b es o r o′ es′ (k .0) (k .1) (subst (λ (q : P). Reached (q .world)) p h) in
+    p ∙ rw (← watched-number b es o r o′ es′ (k .0) (k .1), ← s, v)
 
 -- the rules' play of the calls is what the words, RAM and journal mean
 crosses : (n : ℕ) (o : Owned) (l : Left Input) (xs : List Exported) → Exports o xs → Ever n (at (meant o) l) →
     playing n (named xs) (at (meant o) l) ≡ at (meant (owned o xs)) (leftOver n l xs)
 crosses n o l [] ch v = refl
 crosses n o l (x ∷ xs) ch v =
-    let c = x .call in
-    let t = apt c (ch .0 .0) in
-    let l′ = leftWith n l c (numberIn (x .result)) (stepsIn (x .result)) in
-    let e : one machine journal checkOf (upTo n) c (at (meant o) l) ≡ at (meant (x .after)) l′ =
-    ap (at (answerOf c (meant o) .world)) (sym (left-is c o (x .result) (x .after) (ch .1) n l (ch .0 .1)))
-    ∙ ap (λ (w : W). at w l′) (world-is c o (x .result) (x .after) (ch .1) (v (c ∷ []) (t, tt)))
-    in
-    ap (playing n (named xs)) e ∙ crosses n (x .after) l′ xs (ch .2) (subst (Ever n) e (λ cs f. v (c ∷ cs) (t, f)))
+    let t = stood-apt o x (ch .0) in
+    let e = crosses-one n o l x (ch .0) (v (stood x ∷ []) (t, tt)) in
+    ap (playing n (named xs)) e ∙ crosses n (ownedAfter x) _ xs (ch .1) (subst (Ever n) e (λ cs f. v (stood x ∷ cs) (t, f)))
 
 -- demand 3 for who links libmb50.a
 pub demand3-across : (m ws : List ℕ) (xs : List Exported) → Allowed m ws → Exports (startOwned m ws) xs → Demand3Across m ws xs

@@ -146,7 +146,7 @@ guarded-counts : (n : ℕ) (w : W) (a : Answer Cpu Ring) → n ≤ 9 → Counted
 guarded-counts zero w a l h = h
 guarded-counts (suc n) w a l h = record { number = l; steps = omega arith; each = omega arith; bus = omega arith }
 
-check-small : (w : W) → checkOf w ≤ 9
+pub check-small : (w : W) → checkOf w ≤ 9
 unfolding checkOf
 check-small w =
     let j = w .journal in

@@ -4,5 +4,6 @@ pub mod Single
 pub mod Counts
 pub mod Places
 pub mod Played
+pub mod Stands
 pub mod Seen
 pub mod Across

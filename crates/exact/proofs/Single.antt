@@ -32,6 +32,11 @@ use Rattle.calls.specs.declared.state.Stop.{Stop}
 use Rattle.calls.specs.declared.state.Stop.the-variants.{Halted, Budget}
 use Rattle.calls.specs.declared.state.Reply.{Reply}
 use Rattle.boundary.specs.Boundary.{Crossed, Crosses}
+use Rattle.entries.specs.declared.Entry.{Entry}
+use Rattle.watched.specs.Answer.{Watched as Watching}
+use Rattle.watched.specs.Code.{Watches}
+use Rattle.watched.specs.declared.Watched.{Watched}
+use Rattle.crossing.specs.Crossing.{CrossedList, CrossesWatched}
 use Rattle.recording.specs.Code.{Turn, turnAs}
 use Rattle.recording.specs.declared.Recorded.{Recorded}
 
@@ -119,6 +124,34 @@ pub single-export : (c : Call Input) (w ram ws : List ℕ) (r r′ : ℕ) (w₁ 
 single-export c w ram ws r r′ w₁ w₂ ram₁ ram₂ ws₁ ws₂ p q =
     let e = sym p ∙ q in
     (ap (λ (x : Crossed). x .result) e, ap (λ (x : Crossed). x .words) e, ap (λ (x : Crossed). x .ram) e, ap (λ (x : Crossed). x .journal) e)
+
+-- for a watched run (`watched::run_watched`): all that it returns, memory, journal and the list
+pub single-watched : (n : ℕ) (m : MachineT) (ram ws : List ℕ) (l : List Entry) (r r′ : Watched) (ram₁ ram₂ ws₁ ws₂ : List ℕ) (l₁ l₂ : List Entry) →
+    Watches n m ram ws l r ram₁ ws₁ l₁ → Watches n m ram ws l r′ ram₂ ws₂ l₂ → (r ≡ r′) × (ram₁ ≡ ram₂) × (ws₁ ≡ ws₂) × (l₁ ≡ l₂)
+single-watched n m ram ws l r r′ ram₁ ram₂ ws₁ ws₂ l₁ l₂ p q =
+    let e = sym p ∙ q in
+    (ap watchedFrom e, ap (λ (x : Watching). x .world .box .ram) e, ap (λ (x : Watching). x .world .journal .words) e, ap (λ (x : Watching). x .list) e)
+  where
+    watchedFrom : Watching → Watched
+    watchedFrom x =
+        record {
+          number = x .number;
+          told = record { steps = x .steps; bus = x .bus; ending = x .ending; met = x .met; place = x .place };
+          machine = record { cpu = x .world .box .cpu; next = x .world .journal .next; held = x .world .journal .held };
+        }
+
+-- for its export: result, state words, memory, journal and the list
+pub single-watched-export : (n : ℕ) (w ram ws : List ℕ) (l : List Entry) (r r′ : ℕ) (w₁ w₂ ram₁ ram₂ ws₁ ws₂ : List ℕ) (l₁ l₂ : List Entry) →
+    CrossesWatched n w ram ws l r w₁ ram₁ ws₁ l₁ → CrossesWatched n w ram ws l r′ w₂ ram₂ ws₂ l₂ →
+    (r ≡ r′) × (w₁ ≡ w₂) × (ram₁ ≡ ram₂) × (ws₁ ≡ ws₂) × (l₁ ≡ l₂)
+single-watched-export n w ram ws l r r′ w₁ w₂ ram₁ ram₂ ws₁ ws₂ l₁ l₂ p q =
+    let e = sym p ∙ q in (
+      ap (λ (x : CrossedList). x .crossed .result) e,
+      ap (λ (x : CrossedList). x .crossed .words) e,
+      ap (λ (x : CrossedList). x .crossed .ram) e,
+      ap (λ (x : CrossedList). x .crossed .journal) e,
+      ap (λ (x : CrossedList). x .list) e,
+    )
 
 -- for the recorded step: all that it returns, registers, CSRs, memory and journal
 pub single-recorded : (r r′ : Recorded) (g g′ k k′ m m′ ws ws′ : List ℕ) → turnAs r g k m ws ≡ turnAs r′ g′ k′ m′ ws′ →

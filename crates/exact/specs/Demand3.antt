@@ -13,6 +13,10 @@ use Rattle.calls.specs.Inputs.{Input, step, tick, receive, sent, setRegister, p
 use Rattle.calls.specs.Calls.{W, answerOf, worldOf, replied, Keeps, started}
 use Rattle.calls.specs.declared.state.Machine.{Machine}
 use Rattle.calls.specs.declared.state.Reply.{Reply}
+use Rattle.entries.specs.declared.Entry.{Entry}
+use Rattle.watched.specs.Answer.{asRun}
+use Rattle.watched.specs.Code.{answerAs, Watches}
+use Rattle.watched.specs.declared.Watched.{Watched}
 
 -- "of any allowed size"; memory is bytes
 pub record Allowed (m ws : List ℕ) : Type 0 where
@@ -21,15 +25,31 @@ pub record Allowed (m ws : List ℕ) : Type 0 where
   pub whole : length ws % 32 ≡ 0
   pub words : length ws ≤ 32768
 
--- one of "our calls": what it was, what the code returned, and memory and journal afterwards
-pub record Made : Type 0 where
-  pub call : Call Input
-  pub reply : Reply
-  pub ram : List ℕ
-  pub words : List ℕ
+-- one of "our calls": what it was, what the code returned, and memory and journal afterwards; of a watched run (Q-9) its budget, the list, what the
+-- code returned, memory and journal afterwards, and the list afterwards
+pub data Made : Type 0 where
+  made : Call Input → Reply → List ℕ → List ℕ → Made
+  watching : ℕ → List Entry → Watched → List ℕ → List ℕ → List Entry → Made
+
+abbrev pub called : Made → Call Input
+called (made c r ram ws) = c
+called (watching n l r ram ws l′) = run n
 
 abbrev pub answered : Made → Answer Cpu Ring
-answered x = replied (x .reply) (x .ram) (x .words)
+answered (made c r ram ws) = replied r ram ws
+answered (watching n l r ram ws l′) = asRun (answerAs r ram ws l′)
+
+abbrev pub machineAfter : Made → Machine
+machineAfter (made c r ram ws) = r .machine
+machineAfter (watching n l r ram ws l′) = r .machine
+
+abbrev pub ramAfter : Made → List ℕ
+ramAfter (made c r ram ws) = ram
+ramAfter (watching n l r ram ws l′) = ram
+
+abbrev pub wordsAfter : Made → List ℕ
+wordsAfter (made c r ram ws) = ws
+wordsAfter (watching n l r ram ws l′) = ws
 
 -- its arguments are of their types: a byte, a word
 abbrev pub Fits : Input → Type 0
@@ -46,22 +66,27 @@ Typed (give i) = Fits i
 Typed (run n) = Unit {0}
 Typed back = Unit {0}
 
+-- a call keeps its promise
+abbrev pub Kept : Machine → List ℕ → List ℕ → Made → Type 0
+Kept m ram ws (made c r ram′ ws′) = Typed c × Keeps c m ram ws r ram′ ws′
+Kept m ram ws (watching n l r ram′ ws′ l′) = Watches n m ram ws l r ram′ ws′ l′
+
 -- "fixed from then on, let only our calls touch either, and hand each call the state that the last one returned": each call keeps its promise, on
 -- the machine, memory and journal that the one before it left
 abbrev pub Chain : Machine → List ℕ → List ℕ → List Made → Type 0
 Chain m ram ws [] = Unit {0}
-Chain m ram ws (x ∷ xs) = Typed (x .call) × Keeps (x .call) m ram ws (x .reply) (x .ram) (x .words) × Chain (x .reply .machine) (x .ram) (x .words) xs
+Chain m ram ws (x ∷ xs) = Kept m ram ws x × Chain (machineAfter x) (ramAfter x) (wordsAfter x) xs
 
 -- what stands after the calls
 abbrev pub last : Machine → List ℕ → List ℕ → List Made → W
 last m ram ws [] = worldOf m ram ws
-last m ram ws (x ∷ xs) = last (x .reply .machine) (x .ram) (x .words) xs
+last m ram ws (x ∷ xs) = last (machineAfter x) (ramAfter x) (wordsAfter x) xs
 
 -- "the inputs not taken back", newest first, and "the number held": it "starts at 0, grows by one per accepted input up to the journal's slots
 -- (a run counts as its steps), and falls by one per step-back"; by the numbers and steps that the code returned
 abbrev pub leftBy : ℕ → Left Input → List Made → Left Input
 leftBy n l [] = l
-leftBy n l (x ∷ xs) = leftBy n (leaves (upTo n) step (x .call) (answered x .number) (answered x .steps) l) xs
+leftBy n l (x ∷ xs) = leftBy n (leaves (upTo n) step (called x) (answered x .number) (answered x .steps) l) xs
 
 abbrev pub left : List ℕ → List Made → Left Input
 left ws xs = leftBy (slots ws) (record { inputs = []; held = 0 }) xs

@@ -1,11 +1,13 @@
 // The C boundary: the calls on 32 words of state, lent bytes and lent journal words, and the text of instructions. No rule of its own.
 use boundary::fields;
 use boundary::words;
+use entries::Entry;
 use machine::Call;
 ghost use Rattle.history.specs.Trace.{Call as CallOf, give, back as goesBack};
 ghost use Rattle.calls.specs.Inputs.{Input};
 ghost use Rattle.machine.specs.Asked.{asked};
 ghost use Rattle.boundary.specs.Boundary.{Crosses, listed, assembled};
+ghost use Rattle.crossing.specs.Crossing.{CrossesWatched};
 ghost use mathlib.Core.Path.{_≡_};
 ghost use lib.ListN.{length};
 ghost use Rattle.text.specs.Listing.{listSays, listLeaves};
@@ -97,6 +99,24 @@ pub extern "C" fn mb50_run(
     ensures { λ r. ⌜ Crosses (CallOf.run budget) (now (state .entry)) (now (ram .entry)) (now (journal .entry)) r (now (state .exit)) (now (ram .exit)) (now (journal .exit)) ⌝ }
 {
     cross(Call::Run(budget), state, ram, journal)
+}
+
+// The list's entries are three words each, as C has them.
+#[no_mangle]
+pub extern "C" fn mb50_run_watched(
+    state: &mut [u16; 32],
+    ram: &mut [u8],
+    journal: &mut [u16],
+    list: &mut [Entry],
+    budget: u16,
+) -> u64
+    ensures { λ r. ⌜ CrossesWatched budget (now (state .entry)) (now (ram .entry)) (now (journal .entry)) (now (list .entry))
+        r (now (state .exit)) (now (ram .exit)) (now (journal .exit)) (now (list .exit)) ⌝ }
+{
+    let p = entries::gather(list);
+    let c = crossing::cross_points(state, ram, journal, p, budget);
+    entries::mark(list, c.met);
+    c.result
 }
 
 #[no_mangle]

@@ -2,24 +2,36 @@
 
 use super::desk::{Command, Desk, COMMAND};
 use super::script::Script;
-use super::{edges, faults, walks};
+use super::{edges, faults, walks, watches};
 
-/// The input: all commands.
-pub fn input() -> Vec<u8> {
+/// The input: all commands, and after them those of the watched runs.
+pub fn all_input() -> Vec<u8> {
+    let mut bytes = input();
+    bytes.extend(watches::input());
+    bytes
+}
+
+/// The output for that input: a line for each time that the digest is shown.
+pub fn all_output() -> String {
+    shown(&all_input())
+}
+
+/// The commands of the calls that are no watched run.
+fn input() -> Vec<u8> {
     let commands = script().commands;
     commands.iter().flat_map(|one| one.encode()).collect()
 }
 
-/// The output for that input: a line for each time that the digest is shown.
-pub fn output() -> String {
+/// The lines that commands show.
+pub fn shown(commands: &[u8]) -> String {
     let mut desk = Desk::new();
-    for command in input().chunks(COMMAND) {
+    for command in commands.chunks(COMMAND) {
         desk.obey(Command::decode(command));
     }
     desk.output()
 }
 
-/// All scenarios.
+/// All scenarios but those of watched runs.
 fn script() -> Script {
     let mut script = Script::new();
     walks::write(&mut script);
@@ -132,7 +144,7 @@ mod tests {
         let commands = script().commands;
         assert_eq!(input().len(), COMMAND * commands.len());
         assert!(commands.len() <= 45_000, "{}", commands.len());
-        let lines = output().lines().count();
+        let lines = shown(&input()).lines().count();
         assert!((150..=250).contains(&lines), "{lines}");
         for kind in 0..20 {
             assert!(commands.iter().any(|command| command.kind == kind));

@@ -1,8 +1,10 @@
-//! The commands of the call vectors, and the desk that obeys them: a machine
-//! with RAM, a journal and a digest.
+//! The commands of the call vectors and of the watched vectors, and the desk
+//! that obeys them: a machine with RAM, a journal, a list and a digest.
 
+use super::points::Points;
 use super::Digest;
 use crate::machine::{Answer, Call, Cause, Machine};
+use crate::watched::{self, Stop, Told};
 
 /// The bytes of the RAM buffer.
 const RAM: usize = 65_536;
@@ -33,6 +35,8 @@ pub const SHOW: u8 = 17;
 pub const SET_REGISTER: u8 = 18;
 /// The halted mark is set.
 pub const SET_HALTED: u8 = 19;
+/// A watched run is made; the kinds above it arrange its list.
+pub const RUN_WATCHED: u8 = 20;
 
 /// A command: its kind and what goes with it.
 #[derive(Clone, Copy, Debug, PartialEq, Eq)]
@@ -98,8 +102,8 @@ impl Command {
     }
 }
 
-/// A machine, the buffers from which RAM and journal are lent, and the lines
-/// shown so far.
+/// A machine, the buffers from which RAM and journal are lent, the list of
+/// watched runs, and the lines shown so far.
 pub struct Desk {
     /// The machine.
     pub machine: Machine,
@@ -111,6 +115,10 @@ pub struct Desk {
     pub ram_length: usize,
     /// How many words of the journal buffer are lent.
     pub journal_length: usize,
+    /// The list.
+    pub points: Points,
+    /// What the last watched run answered.
+    pub told: Option<Told>,
     digest: Digest,
     lines: Vec<String>,
 }
@@ -124,6 +132,8 @@ impl Desk {
             journal: vec![0; JOURNAL],
             ram_length: 0,
             journal_length: 0,
+            points: Points::new(),
+            told: None,
             digest: Digest::new(),
             lines: Vec::new(),
         }
@@ -160,11 +170,38 @@ impl Desk {
             Cause::Budget => 1,
             Cause::Halted => 2,
         };
-        self.digest.absorb(answer.number);
-        self.digest.absorb(answer.steps);
-        self.digest.absorb((answer.bus % 65_536) as u16);
-        self.digest.absorb((answer.bus / 65_536) as u16);
+        self.absorb_counts(answer.number, answer.steps, answer.bus);
         self.digest.absorb(cause);
+    }
+
+    /// Absorbs the numbers that every answer has.
+    fn absorb_counts(&mut self, number: u16, steps: u16, bus: u32) {
+        self.digest.absorb(number);
+        self.digest.absorb(steps);
+        self.digest.absorb((bus % 65_536) as u16);
+        self.digest.absorb((bus / 65_536) as u16);
+    }
+
+    /// Makes a watched run, and absorbs the answer, the machine and the list.
+    fn run_watched(&mut self, budget: u16) {
+        let ram = &mut self.ram[..self.ram_length];
+        let journal = &mut self.journal[..self.journal_length];
+        let mut list = self.points.lent();
+        let told = watched::run(&mut self.machine, ram, journal, &mut list, budget);
+        self.points.take_back(&list);
+        let (cause, place) = match told.stop {
+            Stop::None => (0, 0),
+            Stop::Budget => (1, 0),
+            Stop::Halted => (2, 0),
+            Stop::Watch(place) => (3, place),
+            Stop::Break(place) => (4, place),
+        };
+        self.absorb_counts(told.number, told.steps, told.bus);
+        self.digest.absorb(cause);
+        self.digest.absorb(place as u16);
+        self.absorb_machine();
+        self.points.absorb(&mut self.digest);
+        self.told = Some(told);
     }
 
     /// Absorbs the machine.
@@ -197,14 +234,16 @@ impl Desk {
             SHOW => self.show(),
             SET_REGISTER => self.machine.cpu.registers[usize::from(y % 16)] = a,
             SET_HALTED => self.machine.cpu.halted = y % 2 == 1,
-            _ => {}
+            RUN_WATCHED => self.run_watched(a),
+            _ => self.points.arrange(command),
         }
     }
 
     /// Begins a scenario: the machine as at the start, the journal buffer all
-    /// 0, the RAM buffer filled. What is lent stays as long as it was.
+    /// 0, the RAM buffer filled, no entries. Lengths of RAM and journal stay.
     fn start(&mut self, fill: u8) {
         self.machine = Machine::new();
+        self.points = Points::new();
         self.journal.fill(0);
         for (address, byte) in self.ram.iter_mut().enumerate() {
             *byte = ((address * 37 + usize::from(fill)) % 251) as u8;
@@ -226,6 +265,7 @@ impl Desk {
 
 #[cfg(test)]
 mod tests {
+    use super::super::points::{SET_ENTRIES, SET_ENTRY};
     use super::*;
 
     /// A command of this kind.
@@ -285,7 +325,7 @@ mod tests {
             command(SET_RAM_BYTE, 0x99, 0xffff, 0),
             command(SET_REGISTER, 0x12, 0x4321, 0),
             command(SET_HALTED, 3, 0, 0),
-            command(20, 1, 1, 1),
+            command(24, 1, 1, 1),
             command(255, 1, 1, 1),
         ]);
         assert_eq!(desk.journal[32_999], 0xbeef);
@@ -297,6 +337,7 @@ mod tests {
         assert_eq!(desk.machine.cpu.registers[2], 0x4321);
         assert!(desk.machine.cpu.halted);
         assert_eq!(desk.output(), "");
+        assert_eq!(desk.points, Points::new());
     }
 
     #[test]
@@ -305,6 +346,8 @@ mod tests {
             command(SET_RAM_LENGTH, 0, 2, 0),
             command(SET_JOURNAL_LENGTH, 0, 32, 0),
             command(1, 0, 0, 0),
+            command(SET_ENTRY, 5, 1, 2),
+            command(SET_ENTRIES, 0, 7, 0),
             command(SHOW, 0, 0, 0),
             command(START, 1, 0, 0),
             command(SHOW, 0, 0, 0),
@@ -316,6 +359,36 @@ mod tests {
         assert_eq!(desk.lines.len(), 2);
         assert_eq!(desk.lines[1], line);
         assert_eq!(desk.machine, Machine::new());
+        assert_eq!(desk.points, Points::new());
+    }
+
+    #[test]
+    fn what_a_watched_run_absorbs() {
+        let desk = after(&[
+            command(SET_RAM_LENGTH, 0, 2, 0),
+            command(START, 0, 0, 0),
+            command(SET_RAM_BYTE, 0x16, 0, 0),
+            command(SET_RAM_BYTE, 0x12, 1, 0),
+            command(SET_ENTRY, 1, 0, 2),
+            command(SET_ENTRY, 0, 9, 1),
+            command(SET_ENTRIES, 0, 2, 0),
+            command(RUN_WATCHED, 0, 5, 0),
+            command(SHOW, 0, 0, 0),
+        ]);
+        let mut digest = Digest::new();
+        let answer = [0, 1, 3, 0, 3, 1];
+        answer.iter().for_each(|word| digest.absorb(*word));
+        (0..15).for_each(|_| digest.absorb(0));
+        digest.absorb(2);
+        (0..8).for_each(|_| digest.absorb(0));
+        [2, 0, 0].iter().for_each(|word| digest.absorb(*word));
+        digest.absorb(2);
+        for two in [[9, 0], [1, 2], [0, 1]] {
+            two.iter().for_each(|word| digest.absorb(*word));
+            (0..62).for_each(|_| digest.absorb(0));
+        }
+        digest.absorb_bytes(&[0, 0x12]);
+        assert_eq!(desk.output(), format!("0 {}\n", digest.digits()));
     }
 
     #[test]

@@ -1,11 +1,14 @@
-//! Writes the commands of the call vectors. It obeys each command as it is
-//! written, so that a scenario can look at the machine to choose the next.
+//! Writes the commands of the call vectors and of the watched vectors. It
+//! obeys each command as it is written, so that a scenario can look at the
+//! machine to choose the next.
 
 use super::desk::{self, Command, Desk};
+use super::points;
 use super::programs::{self, Part};
 use super::Random;
 use crate::journal::RECORD;
 use crate::machine::{Answer, Call};
+use crate::watched::{Entry, Told};
 
 /// The commands so far, and the desk that has obeyed them.
 pub struct Script {
@@ -95,6 +98,37 @@ impl Script {
         self.command(desk::SET_CSR0, 0, csr0, 0);
         self.command(desk::SET_NEXT, 0, next, 0);
         self.command(desk::SET_HELD, 0, held, 0);
+    }
+
+    /// Makes these entries the list; what stands there already is not written
+    /// again.
+    pub fn list(&mut self, entries: &[Entry]) {
+        for (place, entry) in entries.iter().enumerate() {
+            let Entry {
+                address,
+                kind,
+                hits,
+            } = *entry;
+            let old = self.desk.points.entries[place];
+            if (old.address, old.kind) != (address, kind) {
+                self.command(points::SET_ENTRY, place as u8, address, kind);
+            }
+            if old.hits != hits {
+                self.command(points::SET_HITS, place as u8, hits, 0);
+            }
+        }
+        self.lend_entries(entries.len() as u16);
+    }
+
+    /// Lends so many entries, also more than there are.
+    pub fn lend_entries(&mut self, count: u16) {
+        self.command(points::SET_ENTRIES, 0, count, 0);
+    }
+
+    /// Adds a watched run.
+    pub fn watched(&mut self, budget: u16) -> Told {
+        self.command(desk::RUN_WATCHED, 0, budget, 0);
+        self.desk.told.expect("the run was made")
     }
 
     /// Shows the digest.

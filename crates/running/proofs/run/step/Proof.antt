@@ -17,15 +17,13 @@ returns c =
 
 returns-2 : tie.Need-returns-2
 returns-2 c =
-    let c7 = c .before .before .before .before .before .before .before in let c10 = c7 .before .before .before in
-    let c18 = c10 .before .before .before .before .before .before .before .before in let c19 = c18 .before in
-    let c22 = c19 .before .before .before in let a = c22 .args in
-    alone (a .m) (now (a .ram)) (now (a .journal)) (c7 .advance .result) _ _ _ _ (c19 .if1 .left)
-    (rw (c10 .place-of .ensures) at (c7 .advance .ensures (c18 .table .ensures))) ∙ rw (c .machine-of .ensures)
+    let c7 = c .before .before .before .before .before .before .before in let c10 = c7 .before .before .before in let c17 = c10 .before .before .before .before .before .before .before in let c20 = c17 .before .before .before in let a = c20 .args in
+    alone (a .m) (now (a .ram)) (now (a .journal)) (c7 .advance .result) _ _ _ _ (c17 .if1 .left)
+    (rw (c10 .place-of .ensures) at (c7 .advance .ensures)) ∙ rw (c .machine-of .ensures)
 
 pub step-spec : {M : Type 1} → statement M
 step-spec =
     tie.close
     (tie.spec
-    (λ c κs. search needs) returns (λ c κs. search needs) (λ c κs. search needs) (λ c κs. search needs) (λ c κs. search needs)
+    (λ c κs. search needs) returns (λ c κs. search needs) (λ c κs. search needs) (λ c κs. search needs)
     (λ c. search needs) (λ c. search needs) returns-2)
