@@ -4,12 +4,11 @@ use crate::texts;
 use crate::values;
 use crate::words;
 
-// A command by its row's letter. `b` is break in MB50's debugger, so that it stands for nothing else.
+// A command by its row's letter.
 pub enum Found {
     Is(u8),
     Unknown,
     Ambiguous,
-    Break,
 }
 
 // What is asked of the table: which command a word names, a line for each command, all that is told of each, or of the one that a word names.
@@ -43,13 +42,14 @@ fn consult(ask: Ask, word: &[u8]) -> Found {
     answered(
         b"a|assemble||ADDR LINE|pokes the two bytes of an instruction|The line is an instruction as list shows it: assemble 0x100 mv r1, r2|
 b|back|ba|[N]|takes back the last step or input, or N of them|Registers, status registers, devices and memory are as they were before it.|
+B|break|b|[-] [ADDR]|stops execute before the instruction at an address|Without an address it lists the breaks and their hits. - deletes the break at an address, or all. With the watches there are 64 at most.|
 c|csr||[NAME]|shows a status register, or all|A name is csr0 to csr15, or a number. Programs set them; the debugger does not.|
 D|do||FILE|does the commands in a file|Files may name files, 8 deep at most.|
 d|dump|d|[ADDR [SIZE]]|shows memory: bytes in hexadecimal, and characters|Without an address it goes on where the last dump ended. Size 0 is 65536 bytes.|
 e|dumpd|dd|[ADDR [SIZE]]|shows memory: bytes in decimal|Addresses and sizes are as of dump.|
 w|dumpw|dw|[ADDR [SIZE]]|shows memory: words in hexadecimal|Addresses and sizes are as of dump.|
 W|dumpwd|dwd|[ADDR [SIZE]]|shows memory: words in decimal|Addresses and sizes are as of dump.|
-x|execute|x, exe|[N]|runs N steps, or until the machine halts|Without N it runs 65,535 steps at a time, and stops after 100 such runs.|
+x|execute|x, exe|[N]|runs N steps, or until the machine halts|It stops at breaks and watches. Without N it runs 65,535 steps at a time, and stops after 100 such runs.|
 h|help|h|[COMMAND]|tells about a command, or about all|? has one line for each command.|
 ?|?|||one line for each command|Numbers are decimal (-1 too), 0x1a2b, 0b1010_0101, or characters as 'x' or 'xy'.|
 H|history|hist|[FILE]|records commands in a file; without one it stops|Without a file it also tells how many records are held.|
@@ -61,10 +61,12 @@ o|origin||ADDR or NAME|steps back to just before the last input that changed it|
 q|quit|q||ends the desk|The end of the input does too.|
 r|register|r, reg|[NAME [VALUE]]|shows a register, or all, or sets one|A name is r0 to r15, sp, ca, ia, f, pc, or a number.|
 R|reset|||resets the machine; memory stays|It is an input like others: back takes it back.|
+X|rexecute|rx|[N]|steps back to a break, or past a store to a watch|It stops at a break's address, and when the step taken back had stored to a watched one; else after N, or where no record is held. Hits stay.|
 S|save||FILE [ADDR SIZE]|saves memory as an image|Without an address all of the RAM; size 0 is all up to its end.|
 t|sent|||the keyboard took the byte in TXD|It is refused while nothing waits to be sent (T is 1).|
-s|step|s|[N]|does one instruction, or N|A halted machine refuses it.|
+s|step|s|[N]|does one instruction, or N|A halted machine refuses it. Breaks and watches do not stop it.|
 T|tick||[N]|the clock ticks, once or N times|Each tick is an input of its own.|
+v|watch|w|[-] [ADDR]|stops execute after a store to an address|Without an address it lists the watches and their hits. - deletes the watch at an address, or all. Only stores are watched: watch w ADDR is the same.|
 ",
         ask,
         word,
@@ -223,14 +225,7 @@ fn told(table: &[u8], r: Place) -> Found {
 
 // The command that a word names.
 pub fn find(word: &[u8]) -> Found {
-    asked(Ask::Name, word)
-}
-
-fn asked(ask: Ask, word: &[u8]) -> Found {
-    if words::is_name(word, b"b") | words::is_name(word, b"break") {
-        return Found::Break;
-    }
-    consult(ask, word)
+    consult(Ask::Name, word)
 }
 
 // Why a word names no command.
@@ -239,7 +234,6 @@ pub fn unfound(f: Found, word: &[u8]) {
         Found::Ambiguous => {
             values::complain(b"more than one command begins so (? lists them)", word);
         }
-        Found::Break => values::complain(b"there is no break yet (ba is back)", word),
         Found::Unknown => values::complain(b"no such command (? lists them)", word),
         Found::Is(_) => {}
     }
@@ -261,6 +255,6 @@ pub fn help(line: &[u8], at: usize) {
     }
     if values::is_end(line, p.to) {
         let word = words::cut(line, p);
-        unfound(asked(Ask::One, word), word);
+        unfound(consult(Ask::One, word), word);
     }
 }

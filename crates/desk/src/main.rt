@@ -36,8 +36,10 @@ fn obey(
     ram: &mut [u8],
     journal: &mut [u16],
 ) -> Desk {
-    operating::operate(letter, line, at, machine, ram, journal);
-    own::tend(letter, d, line, at, machine, ram, journal.len() / 32)
+    let s = d.stops;
+    let after = operating::operate(letter, line, at, s, machine, ram, journal);
+    let e = state::with_stops(d, after);
+    own::tend(letter, e, line, at, machine, ram, journal.len() / 32)
 }
 
 // A line: a command, or nothing, or a remark that begins with #.

@@ -2,14 +2,12 @@
 use console::words;
 use machine::Call;
 use orders::Order;
+use orders::RUNS;
 use orders::images;
 use telling::deeds;
 use telling::outcomes;
 use telling::outcomes::Outcome;
 use word::sums;
-
-// The runs of 65,535 steps after which execute stops by itself.
-const RUNS: usize = 100;
 
 // How many calls.
 fn count(order: Order) -> usize {
@@ -22,6 +20,8 @@ fn count(order: Order) -> usize {
         Order::Keys(n) => n,
         Order::Pokes(at, n) => n,
         Order::Image(at, n) => n,
+        Order::RunBack(n) => 0,
+        Order::RunBackOn => 0,
         Order::Code(at) => 2,
         Order::Steps(n) => 2,
         Order::RunOn => RUNS,

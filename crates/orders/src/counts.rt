@@ -1,4 +1,4 @@
-// tick, back, step, execute, sent, reset: a number at most stands after the name.
+// tick, back, step, execute, rexecute, sent, reset: a number at most stands after the name.
 use crate::Order;
 use console::values;
 
@@ -51,6 +51,18 @@ pub fn execute(line: &[u8], at: usize) -> Order {
         return Order::Run(n.value);
     }
     Order::RunOn
+}
+
+// rexecute [N]
+pub fn rexecute(line: &[u8], at: usize) -> Order {
+    let n = values::only(line, at, 0);
+    if n.is_bad {
+        return Order::Nothing;
+    }
+    if n.is_given {
+        return Order::RunBack(n.value);
+    }
+    Order::RunBackOn
 }
 
 // sent, reset

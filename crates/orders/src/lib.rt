@@ -9,6 +9,9 @@ use console::commands;
 use panel::code;
 use panel::registers;
 
+// The runs of 65,535 steps after which execute stops by itself.
+pub const RUNS: usize = 100;
+
 // Calls on the machine, to be made one after the other; the bytes that they are given stand in the room that the line was read into.
 pub enum Order {
     Nothing,
@@ -19,6 +22,9 @@ pub enum Order {
     Run(u16),
     // Runs until the machine is halted.
     RunOn,
+    // Back to a break or past a watched store: so many records at most, or as many as are held.
+    RunBack(u16),
+    RunBackOn,
     Sent,
     Reset,
     Set(u8, u16),
@@ -70,6 +76,7 @@ pub fn read(
         b't' => counts::bare(Order::Sent, line, at),
         b'T' => counts::tick(line, at),
         b'x' => counts::execute(line, at),
+        b'X' => counts::rexecute(line, at),
         _ => shown(letter, line, at, state, ram),
     }
 }

@@ -1,4 +1,4 @@
-// The line after step, back and execute: where the machine stands.
+// The line after step, back, execute and rexecute: where the machine stands.
 use crate::parts;
 use bus::address;
 use text::list;
@@ -44,6 +44,11 @@ pub fn instruction(w: u16) {
 // The word at an address, as the processor reads it.
 pub fn word_at(state: &[u16; 32], ram: &[u8], at: u16) -> u16 {
     address::read_word(parts::devices(state), ram, at)
+}
+
+// The byte at an address, as the processor reads it.
+pub fn byte_at(state: &[u16; 32], ram: &[u8], at: u16) -> u8 {
+    address::read_byte(parts::devices(state), ram, at)
 }
 
 fn bar() {
@@ -107,8 +112,13 @@ pub fn after_steps(state: &[u16; 32], ram: &[u8], steps: u64, of: u64, bus: u64,
     held(state);
 }
 
-pub fn after_back(state: &[u16; 32], ram: &[u8], steps: u64, of: u64) {
+// The same of steps back, which move no byte over the bus; those of back have no cause either.
+pub fn after_back(state: &[u16; 32], ram: &[u8], steps: u64, of: u64, cause: &[u8]) {
     place(state, ram);
     count_of(steps, of, b"step back", b"steps back");
+    if 0 < cause.len() {
+        comma();
+        report::text(cause);
+    }
     held(state);
 }

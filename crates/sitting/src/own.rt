@@ -5,6 +5,7 @@ use crate::state::Desk;
 use console::values;
 use panel::dumps;
 use panel::dumps::Form;
+use stops::commands;
 
 fn dumped(
     d: Desk,
@@ -21,6 +22,16 @@ fn dumped(
     };
     let last = d.dump;
     state::with_dump(d, dumps::dump(last, f, machine, ram, line, at))
+}
+
+fn broken(d: Desk, line: &[u8], at: usize) -> Desk {
+    let s = d.stops;
+    state::with_stops(d, commands::set_break(s, line, at))
+}
+
+fn watched(d: Desk, line: &[u8], at: usize) -> Desk {
+    let s = d.stops;
+    state::with_stops(d, commands::set_watch(s, line, at))
 }
 
 fn quit(d: Desk, line: &[u8], at: usize) -> Desk {
@@ -46,6 +57,8 @@ pub fn tend(
         b'e' => dumped(d, false, true, line, at, machine, ram),
         b'w' => dumped(d, true, false, line, at, machine, ram),
         b'W' => dumped(d, true, true, line, at, machine, ram),
+        b'B' => broken(d, line, at),
+        b'v' => watched(d, line, at),
         b'D' => scripts::follow(d, line, at),
         b'H' => scripts::history(d, line, at, machine, slots),
         b'q' => quit(d, line, at),

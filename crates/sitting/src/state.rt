@@ -1,9 +1,13 @@
 // What stays from command to command, beside the machine, its memory and the journal.
 use libc::STDIN_FILENO;
 use panel::dumps::Spot;
+use stops::list;
+use stops::list::Stops;
 
 pub struct Desk {
     pub dump: Spot,
+    // Breaks and watches.
+    pub stops: Stops,
     // The file that commands are recorded in, or -1.
     pub log: i32,
     // The command files that are open, the outermost first.
@@ -16,6 +20,7 @@ pub struct Desk {
 pub fn opened() -> Desk {
     Desk {
         dump: Spot { at: 0, size: 16 },
+        stops: list::none(),
         log: -1,
         files: [-1; 8],
         depth: 0,
@@ -27,6 +32,12 @@ pub fn opened() -> Desk {
 pub fn with_dump(d: Desk, dump: Spot) -> Desk {
     let mut e = d;
     e.dump = dump;
+    e
+}
+
+pub fn with_stops(d: Desk, stops: Stops) -> Desk {
+    let mut e = d;
+    e.stops = stops;
     e
 }
 

@@ -3,6 +3,7 @@ use crate::outcomes;
 use crate::outcomes::Outcome;
 use orders::Order;
 use panel::code;
+use panel::parts;
 use panel::refusals;
 use panel::status;
 
@@ -19,9 +20,9 @@ fn keys(o: Outcome, of: usize) {
 }
 
 // What was taken back, and what refused the rest.
-fn back(o: Outcome, of: u64, state: &[u16; 32], ram: &[u8]) {
+fn back(o: Outcome, of: u64, state: &[u16; 32], ram: &[u8], cause: &[u8]) {
     if !outcomes::is_refused(o) {
-        status::after_back(state, ram, o.calls, of);
+        status::after_back(state, ram, o.calls, of, cause);
     }
     refusals::say(o.refusal);
 }
@@ -46,14 +47,39 @@ fn instruction(o: Outcome, at: u16, state: &[u16; 32], ram: &[u8]) {
     report::end();
 }
 
-fn tell(order: Order, o: Outcome, state: &[u16; 32], ram: &[u8]) {
+// The entry that stopped a run, or else another cause.
+fn or<'a>(entry: &'a [u8], otherwise: &'a [u8]) -> &'a [u8] {
+    if entry.len() == 0 {
+        return otherwise;
+    }
+    entry
+}
+
+// What was run back.
+fn ran_back(o: Outcome, of: u64, state: &[u16; 32], ram: &[u8], entry: &[u8]) {
+    if parts::held(state) == 0 {
+        back(o, of, state, ram, or(entry, b"no record left"));
+        return;
+    }
+    back(o, of, state, ram, or(entry, b"budget used up"));
+}
+
+fn tell(order: Order, o: Outcome, state: &[u16; 32], ram: &[u8], entry: &[u8]) {
     match order {
-        Order::Back(n) => back(o, n as u64, state, ram),
+        Order::Back(n) => back(o, n as u64, state, ram, b""),
         Order::Keys(n) => keys(o, n),
         Order::Sent => refusals::say_of_sent(o.refusal),
         Order::Steps(n) => ran(o, n as u64, state, ram, b"done"),
-        Order::Run(n) => ran(o, n as u64, state, ram, b"budget used up"),
-        Order::RunOn => ran(o, 0, state, ram, b"stopped at the limit of 6,553,500 steps"),
+        Order::Run(n) => ran(o, n as u64, state, ram, or(entry, b"budget used up")),
+        Order::RunOn => ran(
+            o,
+            0,
+            state,
+            ram,
+            or(entry, b"stopped at the limit of 6,553,500 steps"),
+        ),
+        Order::RunBack(n) => ran_back(o, n as u64, state, ram, entry),
+        Order::RunBackOn => ran_back(o, 0, state, ram, entry),
         Order::Code(at) => instruction(o, at, state, ram),
         _ => refusals::say(o.refusal),
     }
@@ -70,9 +96,9 @@ fn is_shown(order: Order) -> bool {
     }
 }
 
-// What the calls did is told; whether what they changed is to be shown.
-pub fn told(order: Order, o: Outcome, state: &[u16; 32], ram: &[u8]) -> bool {
-    tell(order, o, state, ram);
+// What the calls did is told, with the entry that stopped them if one did; whether what they changed is to be shown.
+pub fn told(order: Order, o: Outcome, state: &[u16; 32], ram: &[u8], entry: &[u8]) -> bool {
+    tell(order, o, state, ram, entry);
     is_shown(order) & !outcomes::is_refused(o)
 }
 
