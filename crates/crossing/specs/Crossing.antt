@@ -18,7 +18,7 @@ endingNumber Halted = 1
 endingNumber Watch = 2
 endingNumber Break = 3
 
--- "Result as of a run"; "bits 58–63 the place in the list (from 0) of the entry that is named, 0 where none is": a place is below 64
+-- "Result as of a run"; "bits 58–63 the place in the list (from 0) of the entry that is named, 0 where none is"; six bits hold it whole
 abbrev pub watchedResult : Watched → ℕ
 watchedResult a = packed (a .number) (a .steps) (a .bus) (endingNumber (a .ending) + 4 * lowAt 6 (a .place))
 

@@ -5,5 +5,6 @@ pub mod Counts
 pub mod Places
 pub mod Played
 pub mod Stands
+pub mod Whole
 pub mod Seen
 pub mod Across

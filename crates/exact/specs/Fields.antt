@@ -1,5 +1,5 @@
 -- The numbers of an answer that the C boundary has a field of fixed width for: its own number, steps and bus bytes, next slot and records held.
--- `proofs/Counts.antt` and `proofs/Places.antt` prove that each fits its field.
+-- `proofs/Counts.antt`, `proofs/Places.antt` and `proofs/Whole.antt` prove that each fits its field.
 use Prim.Native.Nat.{_*_, _≤_}
 use mathlib.Core.Path.{_≡_}
 use Rattle.word.specs.Word.{lowAt}
@@ -7,6 +7,7 @@ use Rattle.bus.specs.declared.state.Cpu.{Cpu}
 use Rattle.history.specs.Trace.{Answer, Call, give, run, back}
 use Rattle.history.specs.Ring.{Ring}
 use Rattle.calls.specs.Inputs.{Input}
+use Rattle.watched.specs.Answer.{Watched}
 
 -- a run's budget is a word
 abbrev pub Budgeted : Call Input → Type 0
@@ -36,3 +37,10 @@ pub record CountsWhole (a : Answer Cpu Ring) : Type 0 where
 pub record PlacesWhole (j : Ring) : Type 0 where
   pub next : lowAt 16 (j .next) ≡ j .next
   pub held : lowAt 16 (j .held) ≡ j .held
+
+-- of a watched run (Q-9): "Result as of a run .. bits 58–63 the place in the list (from 0) of the entry that is named"
+pub record WatchedWhole (a : Watched) : Type 0 where
+  pub number : lowAt 16 (a .number) ≡ a .number
+  pub steps : lowAt 16 (a .steps) ≡ a .steps
+  pub bus : lowAt 24 (a .bus) ≡ a .bus
+  pub place : lowAt 6 (a .place) ≡ a .place
