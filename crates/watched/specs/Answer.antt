@@ -61,6 +61,6 @@ unlessRefused (suc n) w l a = refused (suc n) w l
 unfoldable pub watchedOf : ℕ → List Entry → W → Watched
 watchedOf budget l w = unlessRefused (orElse (checkOf w) (listCheck l)) w l (told (goes budget true l w) l)
 
--- the answer as a run's, but for why it stopped: a watch and a break leave steps of the budget
+-- the answer as a run's, but for why it stopped: a watch and a break may leave steps of the budget
 abbrev pub asRun : Watched → Answer Cpu Ring
 asRun a = answers (a .number) (a .steps) (a .bus) (runCause (a .ending)) (a .world)

@@ -47,7 +47,7 @@ placed Halted p = 0
 placed Watch p = p
 placed Break p = p
 
--- the cause in a run's words: a watch and a break leave steps of the budget
+-- the cause in a run's words: a watch and a break may leave steps of the budget
 abbrev pub runCause : Ending → Cause
 runCause Refused = no-run
 runCause Budget = budget
