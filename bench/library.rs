@@ -13,6 +13,21 @@ type OfAddress = unsafe extern "C" fn(*mut u16, *mut u8, usize, *mut u16, usize,
 type OfBudget = unsafe extern "C" fn(*mut u16, *mut u8, usize, *mut u16, usize, u16) -> u64;
 type OfList =
     unsafe extern "C" fn(*mut u16, *mut u8, usize, *mut u16, usize, *mut Entry, usize, u16) -> u64;
+type OfPen = unsafe extern "C" fn(
+    *mut u16,
+    *mut u8,
+    usize,
+    *mut u16,
+    usize,
+    *mut u8,
+    usize,
+    *mut u8,
+    usize,
+    *mut u8,
+    usize,
+    *mut u16,
+    usize,
+) -> u64;
 type OfWord = unsafe extern "C" fn(u16, *mut u8, usize) -> u64;
 type OfLine = unsafe extern "C" fn(*mut u8, usize) -> u64;
 
@@ -28,6 +43,7 @@ pub struct Functions {
     pub reset: OfMachine,
     pub run: OfBudget,
     pub run_watched: OfList,
+    pub pen: OfPen,
     pub step_back: OfMachine,
     pub list: OfWord,
     pub assemble: OfLine,
@@ -82,6 +98,21 @@ extern "C" {
         entries: usize,
         budget: u16,
     ) -> u64;
+    fn mb50_pen(
+        state: *mut u16,
+        ram: *mut u8,
+        n: usize,
+        journal: *mut u16,
+        m: usize,
+        line: *mut u8,
+        digits: usize,
+        today: *mut u8,
+        a: usize,
+        last_good: *mut u8,
+        b: usize,
+        setup: *mut u16,
+        words: usize,
+    ) -> u64;
     fn mb50_step_back(state: *mut u16, ram: *mut u8, n: usize, journal: *mut u16, m: usize) -> u64;
     fn mb50_list(word: u16, out: *mut u8, n: usize) -> u64;
     fn mb50_assemble(line: *mut u8, n: usize) -> u64;
@@ -98,10 +129,21 @@ pub const LINKED: Functions = Functions {
     reset: mb50_reset,
     run: mb50_run,
     run_watched: mb50_run_watched,
+    pen: mb50_pen,
     step_back: mb50_step_back,
     list: mb50_list,
     assemble: mb50_assemble,
 };
+
+/// What a pen is given beside the machine: its line, the two manifests, and the setup: the name's address, the address to stop at, the budget,
+/// then numbers of registers and their contents. The library only reads them; they are lent as if it might not, so that the fuzzer sees if it
+/// writes.
+pub struct Pen<'a> {
+    pub line: &'a mut [u8],
+    pub today: &'a mut [u8],
+    pub last_good: &'a mut [u8],
+    pub setup: &'a mut [u16],
+}
 
 /// A call on the machine.
 #[derive(Clone, Copy, Debug)]
@@ -155,6 +197,26 @@ impl Functions {
         let (s, r, j) = (state.as_mut_ptr(), ram.as_mut_ptr(), journal.as_mut_ptr());
         // All that is lent is lent for the time of the call, each with its length, and no pointer of a slice is null.
         unsafe { (self.run_watched)(s, r, n, j, m, list.as_mut_ptr(), entries, budget) }
+    }
+
+    /// Does a pen.
+    #[inline(always)]
+    pub fn pen(&self, state: &mut State, ram: &mut [u8], journal: &mut [u16], pen: Pen) -> u64 {
+        let (n, m, digits) = (ram.len(), journal.len(), pen.line.len());
+        let (s, r, j) = (state.as_mut_ptr(), ram.as_mut_ptr(), journal.as_mut_ptr());
+        let (today, a) = (pen.today.as_mut_ptr(), pen.today.len());
+        let (last_good, b) = (pen.last_good.as_mut_ptr(), pen.last_good.len());
+        let (line, setup, words) = (
+            pen.line.as_mut_ptr(),
+            pen.setup.as_mut_ptr(),
+            pen.setup.len(),
+        );
+        // All that is lent is lent for the time of the call, each with its length, and no pointer of a slice is null.
+        unsafe {
+            (self.pen)(
+                s, r, n, j, m, line, digits, today, a, last_good, b, setup, words,
+            )
+        }
     }
 
     /// Lists a word.

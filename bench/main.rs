@@ -7,6 +7,7 @@
 #[allow(dead_code)] // an image's listing is listing.rs's
 mod emulator;
 mod library;
+mod nights;
 mod programs;
 mod work;
 
@@ -15,6 +16,7 @@ extern crate mb50;
 
 use emulator::boundary;
 use library::{Functions, LINKED};
+use nights::Night;
 use programs::Part;
 use std::process::ExitCode;
 use work::{Desk, Work, ROOM};
@@ -30,6 +32,7 @@ const THEIRS: Functions = Functions {
     reset: boundary::reset,
     run: boundary::run,
     run_watched: boundary::run_watched,
+    pen: boundary::pen,
     step_back: boundary::step_back,
     list: boundary::list,
     assemble: boundary::assemble,
@@ -40,6 +43,12 @@ const REPETITIONS: usize = 7;
 
 /// The slots of the longest journal.
 const SLOTS: usize = 1_024;
+
+/// How many pens of a list are done: all of one of 10,000 take long where each goes through a manifest.
+const PENS: usize = 100;
+
+/// How many lines the manifests have, and how often the pens are done.
+const LISTS: [(usize, u32); 3] = [(100, 20), (1_000, 10), (10_000, 2)];
 
 /// A row of the table.
 struct Row<'a> {
@@ -56,8 +65,10 @@ fn main() -> ExitCode {
     let listed = listed_lines();
     let other = other_lines(&listed);
     let long = long_lines();
+    let nights = LISTS.map(|(count, _)| Night::new(count, PENS));
     let mut rows = step_rows();
     rows.extend(watched_rows());
+    rows.extend(pen_rows(&nights));
     rows.extend(text_rows(&listed, &other, &long));
     rows.retain(|row| row.name.starts_with(&front));
     if rows.is_empty() {
@@ -232,6 +243,19 @@ fn watched_runs(name: &str, program: &[Part], count: &str, entries: u16) -> Row<
             calls: 4,
         },
     }
+}
+
+/// Rows of pens, each a call, with the longest journal.
+fn pen_rows(nights: &[Night]) -> Vec<Row<'_>> {
+    let mut rows = Vec::new();
+    for (night, (lines, rounds)) in nights.iter().zip(LISTS) {
+        rows.push(Row {
+            name: format!("pens: a call each, {lines} lines, {SLOTS} slots"),
+            desk: Desk::new(nights::loaded(), SLOTS),
+            work: Work::Pens { night, rounds },
+        });
+    }
+    rows
 }
 
 /// Rows of listing and assembling.

@@ -1,6 +1,7 @@
 //! What is measured: a desk, and work on it that either implementation does.
 
-use crate::library::{Call, Entry, Functions, State};
+use crate::library::{Call, Entry, Functions, Pen, State};
+use crate::nights::Night;
 use std::time::{Duration, Instant};
 
 /// The most bytes of a word's text.
@@ -29,6 +30,8 @@ pub enum Work<'a> {
     },
     /// Runs of a budget with the desk's list.
     WatchedRuns { budget: u16, calls: u32 },
+    /// The pens of a night.
+    Pens { night: &'a Night, rounds: u32 },
     /// Lone steps.
     Steps { calls: u32 },
     /// Rounds of step-backs over the whole journal; the steps that fill it are not timed.
@@ -85,6 +88,7 @@ impl Desk {
             Work::StepBacks { rounds } => self.step_backs(functions, rounds),
             Work::Listings => timed(|| self.listings(functions)),
             Work::Lines { lines, rounds } => self.lines(functions, lines, rounds),
+            Work::Pens { night, rounds } => self.pens(functions, night, rounds),
             Work::Steps { calls } => timed(|| self.repeat(functions, Call::Step, calls)),
             Work::Runs {
                 budget,
@@ -121,6 +125,25 @@ impl Desk {
             let result = functions.run_watched(&mut self.state, ram, journal, list, budget);
             self.keep(result);
         }
+    }
+
+    fn pens(&mut self, functions: &Functions, night: &Night, rounds: u32) -> Duration {
+        let mut night = night.clone();
+        timed(|| {
+            for _ in 0..rounds {
+                for line in &mut night.pens {
+                    let pen = Pen {
+                        line,
+                        today: &mut night.today,
+                        last_good: &mut night.last_good,
+                        setup: &mut night.setup,
+                    };
+                    let (ram, journal) = (&mut self.ram, &mut self.journal);
+                    let result = functions.pen(&mut self.state, ram, journal, pen);
+                    self.keep(result);
+                }
+            }
+        })
     }
 
     fn step_backs(&mut self, functions: &Functions, rounds: u32) -> Duration {
@@ -186,12 +209,13 @@ impl Work<'_> {
         }
     }
 
-    /// How many items the work has: steps, step-backs, inputs, words or lines.
+    /// How many items the work has: steps, pens, step-backs, inputs, words or lines.
     pub fn items(&self, desk: &Desk) -> u64 {
         match *self {
             Work::Runs { budget, calls, .. } | Work::WatchedRuns { budget, calls } => {
                 u64::from(budget) * u64::from(calls)
             }
+            Work::Pens { night, rounds } => night.pens.len() as u64 * u64::from(rounds),
             Work::Steps { calls } => u64::from(calls),
             Work::StepBacks { rounds } => desk.journal.len() as u64 / 32 * u64::from(rounds),
             Work::Inputs { rounds } => INPUTS.len() as u64 * u64::from(rounds),

@@ -1,7 +1,8 @@
 //! The same machine twice, the library's between guards and the model's, and the comparison of the two after each call.
 
+use crate::benches::Pen;
 use crate::guarded::Guarded;
-use crate::library::{Call, Entry, State, LINKED};
+use crate::library::{self, Call, Entry, State, LINKED};
 use crate::reference;
 use std::fmt::LowerHex;
 
@@ -19,6 +20,8 @@ pub struct Desk {
     model_journal: Vec<u16>,
     /// What the last watched run that was accepted left of its list.
     list: Vec<Entry>,
+    /// What the last pen was given.
+    pen: Option<Pen>,
 }
 
 impl Desk {
@@ -31,6 +34,7 @@ impl Desk {
             model_ram: ram,
             model_journal: journal,
             list: Vec::new(),
+            pen: None,
         }
     }
 
@@ -46,8 +50,18 @@ impl Desk {
         &self.model_journal
     }
 
+    /// Whether every call is refused, by 1 or 2.
+    pub fn has_odd_length(&self) -> bool {
+        let (ram, journal) = (self.model_ram.len(), self.model_journal.len());
+        ram > 65_504 || journal % 32 != 0 || journal > 32_768
+    }
+
     pub fn list(&self) -> &[Entry] {
         &self.list
+    }
+
+    pub fn pen(&self) -> Option<&Pen> {
+        self.pen.as_ref()
     }
 
     pub fn set_state(&mut self, index: usize, word: u16) {
@@ -90,6 +104,20 @@ impl Desk {
         if models & 0xffff == 0 {
             self.list = models_list;
         }
+        settled(models, found)
+    }
+
+    /// Does a pen on both; the result, or what differs.
+    pub fn do_pen(&mut self, pen: &Pen) -> Result<u64, Vec<String>> {
+        let (ram, journal) = (self.ram.content_mut(), self.journal.content_mut());
+        let state = self.state.content_mut().try_into().expect("32 words");
+        let mut lent = Lent::new(pen);
+        let ours = LINKED.pen(state, ram, journal, lent.pen());
+        let (ram, journal) = (&mut self.model_ram, &mut self.model_journal);
+        let models = reference::pen(&mut self.model_state, ram, journal, pen);
+        let mut found = self.differences(ours, models);
+        found.extend(lent.differences(pen));
+        self.pen = Some(pen.clone());
         settled(models, found)
     }
 
@@ -137,6 +165,63 @@ fn list_differences(lent: &Guarded<Entry>, models: &[Entry]) -> Vec<String> {
     found.extend(
         lent.broken()
             .map(|place| format!("the list is written {place}")),
+    );
+    found
+}
+
+/// What a pen is lent, all of which must stay as it is.
+struct Lent {
+    line: Guarded<u8>,
+    today: Guarded<u8>,
+    last_good: Guarded<u8>,
+    setup: Guarded<u16>,
+}
+
+impl Lent {
+    fn new(pen: &Pen) -> Lent {
+        Lent {
+            line: Guarded::new(&pen.line, BYTE_FILLER),
+            today: Guarded::new(&pen.today, BYTE_FILLER),
+            last_good: Guarded::new(&pen.last_good, BYTE_FILLER),
+            setup: Guarded::new(&pen.setup, WORD_FILLER),
+        }
+    }
+
+    fn pen(&mut self) -> library::Pen<'_> {
+        library::Pen {
+            line: self.line.content_mut(),
+            today: self.today.content_mut(),
+            last_good: self.last_good.content_mut(),
+            setup: self.setup.content_mut(),
+        }
+    }
+
+    fn differences(&self, pen: &Pen) -> Vec<String> {
+        let mut found = changes("the line", &self.line, &pen.line);
+        found.extend(changes("today's manifest", &self.today, &pen.today));
+        found.extend(changes(
+            "the last good manifest",
+            &self.last_good,
+            &pen.last_good,
+        ));
+        found.extend(changes("the setup", &self.setup, &pen.setup));
+        found
+    }
+}
+
+/// What has changed of something that must stay as it is.
+fn changes<T: Copy + PartialEq + LowerHex>(
+    name: &str,
+    lent: &Guarded<T>,
+    given: &[T],
+) -> Vec<String> {
+    let mut found = Vec::new();
+    found.extend(difference(lent.content(), given, |i| {
+        format!("{name} at {i}")
+    }));
+    found.extend(
+        lent.broken()
+            .map(|place| format!("{name} is written {place}")),
     );
     found
 }

@@ -1,12 +1,13 @@
 //! A differential fuzzer: the model against the library of the C boundary, call by call. After each call the result, the state, RAM, the
-//! journal, the list of a watched run, and guards around each of them are compared; the first call after which something differs is told,
-//! and the status is 1.
+//! journal, the list of a watched run, what a pen is lent, and guards around each of them are compared; the first call after which something
+//! differs is told, and the status is 1.
 //!
-//! Usage: fuzz CALLS SEED
+//! Usage: fuzz CALLS SEED [pen]: with the last word all calls are pens
 
 #[allow(dead_code)]
 #[path = "../model/src/alu.rs"]
 mod alu;
+mod benches;
 #[allow(dead_code)]
 #[path = "../model/src/bus.rs"]
 mod bus;
@@ -23,11 +24,15 @@ mod lines;
 #[allow(dead_code)]
 #[path = "../model/src/machine.rs"]
 mod machine;
+mod manifests;
 #[path = "../model/src/names.rs"]
 mod names;
 #[allow(dead_code)]
 #[path = "../model/src/opcode.rs"]
 mod opcode;
+#[allow(dead_code)]
+#[path = "../model/src/pens.rs"]
+mod pens;
 mod play;
 mod programs;
 mod random;
@@ -35,6 +40,8 @@ mod reference;
 mod scene;
 #[path = "../model/src/text.rs"]
 mod text;
+#[path = "../model/src/utf8.rs"]
+mod utf8;
 #[allow(dead_code)]
 #[path = "../model/src/watched.rs"]
 mod watched;
@@ -53,36 +60,51 @@ use std::process::ExitCode;
 const MANY: u64 = 100_000;
 
 /// The numbers of the refusals.
-const REFUSALS: [usize; 16] = [1, 2, 3, 4, 5, 6, 7, 8, 9, 10, 11, 12, 13, 14, 40, 41];
+const REFUSALS: [usize; 20] = [
+    1, 2, 3, 4, 5, 6, 7, 8, 9, 10, 11, 12, 13, 14, 40, 41, 80, 81, 82, 83,
+];
 
 /// The highest of them.
 const LAST: usize = REFUSALS[REFUSALS.len() - 1];
 
+/// Those of a pen, in the order in which it is refused.
+const PEN_REFUSALS: [usize; 8] = [1, 2, 3, 6, 83, 80, 81, 82];
+
 /// Why a watched run ends, in the order of the cause's numbers.
 const CAUSES: [&str; 4] = ["budget", "halted", "watch", "break"];
+
+/// Why a pen's run ends: the cause's number, and what it is called here.
+const PEN_CAUSES: [(usize, &str); 3] = [(0, "budget"), (1, "halted"), (3, "stop")];
 
 struct Fuzz {
     random: Random,
     programs: Programs,
     lines: Lines,
     calls: u64,
-    /// How often each function was accepted, how often each refusal was met by its number, and how often a watched run ended for each cause.
+    /// Whether all calls are pens.
+    pens_alone: bool,
+    /// How often each function was accepted.
     accepted: [u64; play::NAMES.len()],
+    /// What calls met, with the causes of watched runs; and what pens met of it, with the causes of their runs.
+    met: Met,
+    met_by_pens: Met,
+}
+
+/// How often each refusal was met by its number, and how often a run ended for each cause.
+struct Met {
     refused: [u64; LAST + 1],
     ended: [u64; CAUSES.len()],
 }
 
 fn main() -> ExitCode {
-    let arguments: Vec<String> = std::env::args().skip(1).collect();
-    let numbers: Result<Vec<u64>, _> = arguments.iter().map(|text| text.parse()).collect();
-    let (calls, seed) = match numbers.as_deref() {
-        Ok(&[calls, seed]) => (calls, seed),
-        _ => {
-            eprintln!("usage: fuzz CALLS SEED");
+    let (calls, seed, pens_alone) = match arguments() {
+        Some(given) => given,
+        None => {
+            eprintln!("usage: fuzz CALLS SEED [pen]");
             return ExitCode::from(2);
         }
     };
-    let mut fuzz = Fuzz::new(seed);
+    let mut fuzz = Fuzz::new(seed, pens_alone);
     while fuzz.calls < calls {
         if let Err(report) = fuzz.episode(calls) {
             println!("fuzz: seed {seed}, call {}: {report}", fuzz.calls);
@@ -98,16 +120,28 @@ fn main() -> ExitCode {
     ExitCode::SUCCESS
 }
 
+/// The calls and the seed, and whether all calls are pens.
+fn arguments() -> Option<(u64, u64, bool)> {
+    let given: Vec<String> = std::env::args().skip(1).collect();
+    let (calls, seed, pens_alone) = match given.as_slice() {
+        [calls, seed] => (calls, seed, false),
+        [calls, seed, only] if only == "pen" => (calls, seed, true),
+        _ => return None,
+    };
+    Some((calls.parse().ok()?, seed.parse().ok()?, pens_alone))
+}
+
 impl Fuzz {
-    fn new(seed: u64) -> Fuzz {
+    fn new(seed: u64, pens_alone: bool) -> Fuzz {
         Fuzz {
             random: Random::new(seed),
             programs: Programs::new(),
             lines: Lines::new(),
             calls: 0,
+            pens_alone,
             accepted: [0; play::NAMES.len()],
-            refused: [0; LAST + 1],
-            ended: [0; CAUSES.len()],
+            met: Met::nothing(),
+            met_by_pens: Met::nothing(),
         }
     }
 
@@ -133,7 +167,11 @@ impl Fuzz {
     /// The calls that come next, until one is refused; the last one's number.
     fn plays(&mut self, desk: &mut Desk, limit: u64) -> Result<usize, String> {
         let mut refusal = 0;
-        for play in play::next(&mut self.random, desk, &self.lines) {
+        let plays = match self.pens_alone {
+            true => vec![play::pen(&mut self.random, desk)],
+            false => play::next(&mut self.random, desk, &self.lines),
+        };
+        for play in plays {
             if self.calls < limit && refusal == 0 {
                 refusal = self.make(desk, &play)?;
             }
@@ -162,29 +200,73 @@ impl Fuzz {
 
     /// Notes what a call met.
     fn count(&mut self, play: &Play, result: u64) {
-        match (result & 0xffff) as usize {
-            0 => self.accepted[play.number()] += 1,
-            number => self.refused[number] += 1,
+        let (function, number) = (play.number(), (result & 0xffff) as usize);
+        if number == 0 {
+            self.accepted[function] += 1;
         }
-        if play.number() == play::WATCHED && result & 0xffff == 0 {
-            self.ended[(result >> 56) as usize % CAUSES.len()] += 1;
+        let watched = function == play::WATCHED;
+        self.met.count(number, watched.then_some(result >> 56));
+        if function == play::PEN {
+            self.met_by_pens.count(number, Some(result >> 56));
         }
     }
 
     /// Says what was met.
     fn tell(&self) {
-        let refused: Vec<String> = REFUSALS
-            .iter()
-            .map(|number| format!("{number}: {}", self.refused[*number]))
-            .collect();
-        println!("accepted: {}", counts(&play::NAMES, &self.accepted));
-        println!("watched runs ended: {}", counts(&CAUSES, &self.ended));
-        println!("refused by number: {}", refused.join(", "));
+        if !self.pens_alone {
+            println!("accepted: {}", counts(&play::NAMES, &self.accepted));
+            println!("watched runs ended: {}", counts(&CAUSES, &self.met.ended));
+            println!("refused by number: {}", self.met.refusals(&REFUSALS));
+        }
+        let (names, ended): (Vec<&str>, Vec<u64>) = self.pens_ended().into_iter().unzip();
+        println!("pens ended: {}", counts(&names, &ended));
+        let refused = self.met_by_pens.refusals(&PEN_REFUSALS);
+        println!("pens refused by number: {refused}");
+    }
+
+    /// How often a pen's run ended for each of its causes.
+    fn pens_ended(&self) -> [(&'static str, u64); 3] {
+        PEN_CAUSES.map(|(number, name)| (name, self.met_by_pens.ended[number]))
     }
 
     fn is_narrow(&self) -> bool {
-        let mut refused = REFUSALS.iter().map(|number| self.refused[*number]);
-        self.accepted.contains(&0) || self.ended.contains(&0) || refused.any(|count| count == 0)
+        let ended = self.pens_ended();
+        let pens = ended.iter().any(|cause| cause.1 == 0) || self.met_by_pens.lacks(&PEN_REFUSALS);
+        let ended = self.met.ended.contains(&0);
+        let others = self.accepted.contains(&0) || ended || self.met.lacks(&REFUSALS);
+        pens || !self.pens_alone && others
+    }
+}
+
+impl Met {
+    fn nothing() -> Met {
+        Met {
+            refused: [0; LAST + 1],
+            ended: [0; CAUSES.len()],
+        }
+    }
+
+    /// Notes a call's number, and its cause if it is accepted and has one.
+    fn count(&mut self, number: usize, cause: Option<u64>) {
+        match (number, cause) {
+            (0, Some(cause)) => self.ended[cause as usize % CAUSES.len()] += 1,
+            (0, None) => {}
+            (number, _) => self.refused[number] += 1,
+        }
+    }
+
+    /// The refusals of these numbers with their counts.
+    fn refusals(&self, numbers: &[usize]) -> String {
+        let told: Vec<String> = numbers
+            .iter()
+            .map(|number| format!("{number}: {}", self.refused[*number]))
+            .collect();
+        told.join(", ")
+    }
+
+    /// Whether one of these refusals was never met.
+    fn lacks(&self, numbers: &[usize]) -> bool {
+        numbers.iter().any(|number| self.refused[*number] == 0)
     }
 }
 

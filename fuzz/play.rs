@@ -1,5 +1,6 @@
 //! Which calls are made.
 
+use crate::benches::{self, Pen};
 use crate::desk::{self, Desk};
 use crate::entries;
 use crate::library::{Call, Entry};
@@ -7,16 +8,17 @@ use crate::lines::Lines;
 use crate::random::Random;
 use std::fmt;
 
-/// A call of any of the twelve functions.
+/// A call of any of the thirteen functions.
 pub enum Play {
     OnMachine(Call),
     Watched { list: Vec<Entry>, budget: u16 },
+    Pen(Pen),
     List { word: u16, room: usize },
     Assemble(Vec<u8>),
 }
 
 /// The functions, in the order of `Play::number`.
-pub const NAMES: [&str; 12] = [
+pub const NAMES: [&str; 13] = [
     "step",
     "tick",
     "receive",
@@ -29,18 +31,24 @@ pub const NAMES: [&str; 12] = [
     "list",
     "assemble",
     "run_watched",
+    "pen",
 ];
 
-/// Which of them is the watched run.
+/// Which of them is the watched run, and which is the pen.
 pub const WATCHED: usize = 11;
+pub const PEN: usize = 12;
 
 /// The calls that come next: mostly one, sometimes a burst of step-backs.
 pub fn next(random: &mut Random, desk: &Desk, lines: &Lines) -> Vec<Play> {
     let halted = desk.state()[24] & 4 != 0;
+    // There are few desks of which every call is refused; a pen is tried on most of them.
+    if desk.has_odd_length() && random.percent(40) {
+        return vec![pen(random, desk)];
+    }
     if halted && random.percent(40) {
         return vec![Play::OnMachine(revival(random))];
     }
-    let call = match random.below(100) {
+    let call = match random.below(110) {
         0..=27 => Call::Step,
         28..=37 => Call::Run(budget(random)),
         38..=46 if halted && random.percent(80) => revival(random),
@@ -54,7 +62,8 @@ pub fn next(random: &mut Random, desk: &Desk, lines: &Lines) -> Vec<Play> {
         84..=90 => Call::Poke(address(random, desk.ram().len()), random.byte()),
         91 => Call::Reset,
         92..=96 => return vec![listing(random)],
-        _ => return vec![Play::Assemble(lines.line(random))],
+        97..=99 => return vec![Play::Assemble(lines.line(random))],
+        _ => return vec![pen(random, desk)],
     };
     vec![Play::OnMachine(call)]
 }
@@ -69,7 +78,7 @@ fn revival(random: &mut Random) -> Call {
 }
 
 /// Mostly small ones, since the model takes its time.
-fn budget(random: &mut Random) -> u16 {
+pub fn budget(random: &mut Random) -> u16 {
     match random.below(400) {
         0..=39 => 0,
         40..=119 => 1,
@@ -87,6 +96,11 @@ fn watched(random: &mut Random, desk: &Desk) -> Play {
         list: entries::list(random, desk),
         budget: budget(random),
     }
+}
+
+/// A pen of the pen bench.
+pub fn pen(random: &mut Random, desk: &Desk) -> Play {
+    Play::Pen(benches::pen(random, desk))
 }
 
 /// Step-backs until a few more than there are records, or fewer.
@@ -150,6 +164,7 @@ impl Play {
         match self {
             Play::OnMachine(call) => desk.call(*call),
             Play::Watched { list, budget } => desk.run_watched(list, *budget),
+            Play::Pen(pen) => desk.do_pen(pen),
             Play::List { word, room } => desk::list(*word, *room),
             Play::Assemble(line) => desk::assemble(line),
         }
@@ -170,6 +185,7 @@ impl Play {
             Play::List { .. } => 9,
             Play::Assemble(_) => 10,
             Play::Watched { .. } => WATCHED,
+            Play::Pen(_) => PEN,
         }
     }
 }
@@ -190,6 +206,13 @@ impl fmt::Display for Play {
                 write!(f, " budget {budget} entries {}", list.len())?;
                 let mut entries = list.iter();
                 entries.try_for_each(|[at, kind, hits]| write!(f, " [{at:04x} {kind} {hits}]"))
+            }
+            Play::Pen(pen) => {
+                let [line, today, last_good] = [&pen.line, &pen.today, &pen.last_good];
+                write!(f, " line \"{}\"", line.escape_ascii())?;
+                write!(f, " today \"{}\"", today.escape_ascii())?;
+                write!(f, " last_good \"{}\"", last_good.escape_ascii())?;
+                write!(f, " setup {:04x?}", pen.setup)
             }
             Play::List { word, room } => write!(f, " word 0x{word:04x} room {room}"),
             Play::Assemble(line) => write!(f, " line \"{}\"", line.escape_ascii()),

@@ -120,10 +120,23 @@ const CREEP: Source = &[
     "stob r1, r2",
 ];
 
+/// Adds letters to r0 up to a closing 0: the routine of a pen, if r2 and r3 are 0.
+const LETTERS: Source = &[
+    "ldb r2, r1",
+    "add r0, r2",
+    "inc1 r1, r1",
+    "cmpu r2, r3",
+    "ldnzis pc, pc",
+    ".0000",
+    "inc1 r4, r4",
+    "ld pc, pc",
+    ".000c",
+];
+
 /// The opcodes of sto, stob and ddsto.
 const STORES: [u8; 3] = [0x15, 0x16, 0x17];
 
-const SOURCES: [Source; 6] = [STACK, COPY, ECHO, EXCEPTIONS, COMPUTE, CREEP];
+const SOURCES: [Source; 7] = [STACK, COPY, ECHO, EXCEPTIONS, COMPUTE, CREEP, LETTERS];
 
 /// All that is put in RAM.
 pub struct Programs {

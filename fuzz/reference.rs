@@ -1,8 +1,10 @@
 //! The model behind the C boundary: the same words in, the same words and result out.
 
+use crate::benches::Pen;
 use crate::cpu::{Cpu, PC};
 use crate::library::{self, Call, State};
 use crate::machine::{self, Answer, Cause, Machine};
+use crate::pens::{self, Lists, Matched, Setup};
 use crate::text;
 use crate::watched::{self, Stop, Told};
 
@@ -26,6 +28,15 @@ pub fn path(state: &State, ram: &[u8], steps: usize) -> Path {
         path.pcs.push(cpu.registers[PC]);
     }
     path
+}
+
+/// The path of a pen's run, or where the pen is refused, the path from the state as it is. The budget is the path's own.
+pub fn pen_path(state: &State, ram: &[u8], given: &Pen, steps: usize) -> Path {
+    let (mut state, mut ram, mut given) = (*state, ram.to_vec(), given.clone());
+    given.setup[2] = 0;
+    state[25..27].fill(0);
+    pen(&mut state, &mut ram, &mut [], &given);
+    path(&state, &ram, steps)
 }
 
 /// Makes a call on the model's machine.
@@ -56,6 +67,23 @@ pub fn run_watched(
         write(&machine, state);
     }
     watched_result(&told)
+}
+
+/// Does a pen on the model's machine.
+pub fn pen(state: &mut State, ram: &mut [u8], journal: &mut [u16], pen: &Pen) -> u64 {
+    let mut machine = read(state);
+    let lists = Lists {
+        today: &pen.today,
+        last_good: &pen.last_good,
+    };
+    let setup = Setup::of_words(&pen.setup);
+    match pens::pen(&mut machine, ram, journal, &pen.line, lists, &setup) {
+        Ok(matched) => {
+            write(&machine, state);
+            pen_result(&matched)
+        }
+        Err(number) => u64::from(number),
+    }
 }
 
 /// Lists a word: the number, then the text's length.
@@ -128,14 +156,25 @@ fn entry(words: &library::Entry) -> watched::Entry {
 
 /// As of a run, but for bits 56–57, the cause, and 58–63, the place of the entry that is named.
 fn watched_result(told: &Told) -> u64 {
-    let (cause, place) = match told.stop {
+    let (cause, place) = cause(told.stop);
+    let counts = u64::from(told.steps) << 16 | u64::from(told.bus) << 32;
+    u64::from(told.number) | counts | cause << 56 | place << 58
+}
+
+/// The number of a cause, and the place of the entry that it names.
+fn cause(stop: Stop) -> (u64, u64) {
+    match stop {
         Stop::None | Stop::Budget => (0, 0),
         Stop::Halted => (1, 0),
         Stop::Watch(place) => (2, place as u64),
         Stop::Break(place) => (3, place as u64),
-    };
-    let counts = u64::from(told.steps) << 16 | u64::from(told.bus) << 32;
-    u64::from(told.number) | counts | cause << 56 | place << 58
+    }
+}
+
+/// Bits 16–31 r0, 32–55 the bus bytes of the run, 56–57 its cause; the one entry is at place 0.
+fn pen_result(matched: &Matched) -> u64 {
+    let (cause, _) = cause(matched.stop);
+    u64::from(matched.r0) << 16 | u64::from(matched.bus) << 32 | cause << 56
 }
 
 fn translated(call: Call) -> machine::Call {

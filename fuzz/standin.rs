@@ -1,13 +1,15 @@
 //! A library with the boundary's names over the benchmark's emulator, to stand in for the proved one: the harness and the fuzzer can be tried
 //! without it, the fuzzer tests the emulator itself, and a copy with a fault shows that the fuzzer finds faults.
 //!
-//! `MB50_BROKEN`, when this is compiled, names the fault: `flag`, `journal`, `guard`, `state`, `watch` or `hits`. Each shows only now and then.
+//! `MB50_BROKEN`, when this is compiled, names the fault: `flag`, `journal`, `guard`, `state`, `watch`, `hits`, or one of those of a pen, which
+//! `broken_pen` has. Each shows only now and then.
 
 #[path = "../bench/emulator/mod.rs"]
 #[allow(dead_code)]
 mod emulator;
 
-use emulator::{boundary, Entry};
+use emulator::pens::Pen;
+use emulator::{boundary, Entry, State};
 use std::slice::{from_raw_parts, from_raw_parts_mut};
 
 /// The fault of this copy.
@@ -147,6 +149,84 @@ fn meets_first(state: &[u16], journal: &[u16], list: &[Entry]) -> bool {
     let newest = (usize::from(state[25]) + slots - 1) % slots;
     let first = journal[32 * newest + 26];
     list.iter().any(|entry| entry[..2] == [first, 2])
+}
+
+/// # Safety
+/// The boundary's own terms.
+#[no_mangle]
+pub unsafe extern "C" fn mb50_pen(
+    state: *mut u16,
+    ram: *mut u8,
+    n: usize,
+    journal: *mut u16,
+    m: usize,
+    line: *mut u8,
+    digits: usize,
+    today: *mut u8,
+    a: usize,
+    last_good: *mut u8,
+    b: usize,
+    setup: *mut u16,
+    words: usize,
+) -> u64 {
+    if BROKEN.is_empty() {
+        return boundary::pen(
+            state, ram, n, journal, m, line, digits, today, a, last_good, b, setup, words,
+        );
+    }
+    let state = &mut *state.cast::<State>();
+    let (ram, journal) = (from_raw_parts_mut(ram, n), from_raw_parts_mut(journal, m));
+    let pen = Pen {
+        line: from_raw_parts(line, digits),
+        today: from_raw_parts(today, a),
+        last_good: from_raw_parts(last_good, b),
+        setup: from_raw_parts(setup, words),
+    };
+    broken_pen(state, ram, journal, pen)
+}
+
+/// The faults of a pen: `lists` has the last good manifest first, `order` 81 before 80, `touch` pokes though the pen is refused, `answer` tells r1,
+/// `closing` leaves the closing 0 out, `wide` takes a register's number modulo 256, `return` drops a carriage return after the pen's number.
+fn broken_pen(state: &mut State, ram: &mut [u8], journal: &mut [u16], pen: Pen) -> u64 {
+    let mut setup = pen.setup.to_vec();
+    let mut given = pen;
+    match BROKEN {
+        "lists" => std::mem::swap(&mut given.today, &mut given.last_good),
+        "wide" => setup
+            .iter_mut()
+            .skip(3)
+            .step_by(2)
+            .for_each(|number| *number %= 256),
+        "return" => given.line = given.line.strip_suffix(b"\r").unwrap_or(given.line),
+        _ => {}
+    }
+    let before = ram.to_vec();
+    let pen = Pen {
+        setup: &setup,
+        ..given
+    };
+    let result = emulator::pen(state, ram, journal, &pen);
+    let text = String::from_utf8_lossy(pen.name().unwrap_or_default());
+    let address = usize::from(setup.first().copied().unwrap_or(0));
+    let end = address + text.chars().count();
+    match (BROKEN, result & 0xffff) {
+        ("order", 80) if text.chars().any(|letter| letter == '\0' || is_wide(letter)) => 81,
+        ("touch", 82) if address < ram.len() => {
+            ram[address] = text.bytes().next().unwrap_or(0);
+            result
+        }
+        ("answer", 0) => result & 0xffff_ffff_0000_ffff | u64::from(state[1]) << 16,
+        ("closing", 0) => {
+            ram[end] = before[end];
+            result
+        }
+        _ => result,
+    }
+}
+
+/// Whether a letter is over 0xff, and not one that stands for a fault.
+fn is_wide(letter: char) -> bool {
+    letter > '\u{ff}' && letter != char::REPLACEMENT_CHARACTER
 }
 
 /// # Safety

@@ -5,6 +5,7 @@
  * ram, n      n bytes of RAM, at most 65504
  * journal, m  m words: slots of 32 words, at most 1024 of them, or none
  * list, entries  so many breakpoints and watches, at most 64
+ * line, today, last_good, setup  what a pen is given, which is only read
  * result      bits 0-15: the refusal's number, 0 if accepted; 16-31: the steps of a run; 32-55: bus bytes of a step or a run; 56-63: a run's cause,
  *             0 budget used up, 1 halted. On a refusal all else is 0, and state, RAM, journal and list stay as given.
  *
@@ -38,6 +39,14 @@ typedef struct { uint16_t address, kind, hits; } mb50_entry;
  * the list. Bits 56-57 of the result are the cause: 0 budget used up, 1 halted, 2 watch, 3 break; bits 58-63 the place in the list, from 0, of the first
  * entry that stopped it, or 0. */
 uint64_t mb50_run_watched(uint16_t *state, uint8_t *ram, size_t n, uint16_t *journal, size_t m, mb50_entry *list, size_t entries, uint16_t budget);
+
+/* One pen of the overnight bench. line has the pen's number, 1 to 9 digits and nothing else. today and last_good are manifests in UTF-8: lines of a number, a
+ * tab and a name. The name in the first line with the pen's number, of today's lines or else of the last good ones, is poked as ISO 8859-1 with a closing 0;
+ * the given registers are set; a run follows that stops as at one break. setup has words: the name's address, the address to stop at, the budget, then each
+ * given register's number and content; words that are not there are 0. Bits 16-31 of the result are r0, bits 32-55 the run's bus bytes, bits 56-57 its cause:
+ * 0 budget used up, 1 halted, 3 stopped at the address. A refused pen changes nothing. */
+uint64_t mb50_pen(uint16_t *state, uint8_t *ram, size_t n, uint16_t *journal, size_t m, const uint8_t *line, size_t digits, const uint8_t *today, size_t a,
+                  const uint8_t *last_good, size_t b, const uint16_t *setup, size_t words);
 
 /* Writes an instruction's text to out, which has n bytes; bits 16-31 of the result are the text's length. 16 bytes are enough for any. */
 uint64_t mb50_list(uint16_t word, uint8_t *out, size_t n);

@@ -2,6 +2,7 @@
 //!
 //! Each is safe to call under the boundary's own terms: the state has 32 words, each slice its length, and no pointer is null.
 
+use super::pens::Pen;
 use super::{Entry, State};
 use std::slice::{from_raw_parts, from_raw_parts_mut};
 
@@ -56,6 +57,34 @@ pub unsafe extern "C" fn run_watched(
         from_raw_parts_mut(list, entries),
         budget,
     )
+}
+
+/// # Safety
+/// The boundary's own terms.
+pub unsafe extern "C" fn pen(
+    state: *mut u16,
+    ram: *mut u8,
+    n: usize,
+    journal: *mut u16,
+    m: usize,
+    line: *mut u8,
+    digits: usize,
+    today: *mut u8,
+    a: usize,
+    last_good: *mut u8,
+    b: usize,
+    setup: *mut u16,
+    words: usize,
+) -> u64 {
+    let state = &mut *state.cast::<State>();
+    let (ram, journal) = (from_raw_parts_mut(ram, n), from_raw_parts_mut(journal, m));
+    let pen = Pen {
+        line: from_raw_parts(line, digits),
+        today: from_raw_parts(today, a),
+        last_good: from_raw_parts(last_good, b),
+        setup: from_raw_parts(setup, words),
+    };
+    super::pen(state, ram, journal, &pen)
 }
 
 /// # Safety

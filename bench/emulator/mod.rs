@@ -7,10 +7,12 @@ pub mod boundary;
 mod cpu;
 pub mod image;
 mod mnemonics;
+pub mod pens;
 mod text;
 mod watch;
 
 use cpu::{Cpu, Effect, Written, EXC, F, HALTED, R, T};
+use pens::Pen;
 pub use text::{assemble, list};
 pub use watch::Entry;
 
@@ -94,6 +96,35 @@ impl Machine {
 
     fn is_halted(&self) -> bool {
         self.cpu.marks & HALTED != 0
+    }
+
+    /// Puts a word in a register.
+    #[inline(always)]
+    fn set_register(&mut self, journal: &mut [u16], number: u8, content: u16) -> Answer {
+        let number = usize::from(number);
+        if number > 15 {
+            return Err(6);
+        }
+        self.record(journal, Written::NOTHING);
+        self.cpu.registers[number] = content;
+        if number == F && content & EXC == 0 {
+            self.cpu.marks &= !HALTED;
+        }
+        Ok(0)
+    }
+
+    /// Puts a byte in RAM.
+    #[inline(always)]
+    fn poke(&mut self, ram: &mut [u8], journal: &mut [u16], address: u16, byte: u8) -> Answer {
+        let place = ram.get_mut(usize::from(address)).ok_or(7u64)?;
+        let written = Written {
+            count: 1,
+            first: address,
+            old: u16::from(*place),
+        };
+        self.record(journal, written);
+        *place = byte;
+        Ok(0)
     }
 
     /// Steps until the budget is used up or the machine halts.
@@ -226,30 +257,13 @@ pub fn set_register(
     content: u16,
 ) -> u64 {
     call(state, ram, journal, |machine, _, journal| {
-        let number = usize::from(number);
-        if number > 15 {
-            return Err(6);
-        }
-        machine.record(journal, Written::NOTHING);
-        machine.cpu.registers[number] = content;
-        if number == F && content & EXC == 0 {
-            machine.cpu.marks &= !HALTED;
-        }
-        Ok(0)
+        machine.set_register(journal, number, content)
     })
 }
 
 pub fn poke(state: &mut State, ram: &mut [u8], journal: &mut [u16], address: u16, byte: u8) -> u64 {
     call(state, ram, journal, |machine, ram, journal| {
-        let place = ram.get_mut(usize::from(address)).ok_or(7u64)?;
-        let written = Written {
-            count: 1,
-            first: address,
-            old: u16::from(*place),
-        };
-        machine.record(journal, written);
-        *place = byte;
-        Ok(0)
+        machine.poke(ram, journal, address, byte)
     })
 }
 
@@ -281,6 +295,27 @@ pub fn run_watched(
     call(state, ram, journal, |machine, ram, journal| {
         watch::check(list)?;
         Ok(machine.run_watched(ram, journal, list, budget))
+    })
+}
+
+/// A pen: the result of its run, with r0 where that has the steps.
+pub fn pen(state: &mut State, ram: &mut [u8], journal: &mut [u16], pen: &Pen) -> u64 {
+    call(state, ram, journal, |machine, ram, journal| {
+        let told = machine.pen(ram, journal, || pen.name(), pen.setup)?;
+        Ok(told & !0xffff_0000 | u64::from(machine.cpu.registers[0]) << 16)
+    })
+}
+
+/// A pen whose name is known, or is known to be in no manifest: the result of its run.
+pub fn named_pen(
+    state: &mut State,
+    ram: &mut [u8],
+    journal: &mut [u16],
+    name: Option<&[u8]>,
+    setup: &[u16],
+) -> u64 {
+    call(state, ram, journal, |machine, ram, journal| {
+        machine.pen(ram, journal, || name, setup)
     })
 }
 

@@ -6,7 +6,7 @@ use super::Machine;
 /// An entry of the list as it crosses the boundary: its address, its kind and its hits.
 pub type Entry = [u16; 3];
 
-const BREAK: u16 = 1;
+pub const BREAK: u16 = 1;
 const WATCH: u16 = 2;
 
 /// The most entries of a list.

@@ -8,18 +8,23 @@ mod journal;
 mod listing;
 mod machine;
 mod names;
+mod night;
 mod opcode;
+mod pens;
 mod text;
+mod utf8;
 mod vectors;
 mod watched;
 
+use std::fs;
 use std::io::{self, Read, Write};
+use std::path::Path;
 use std::process::ExitCode;
 
-use vectors::{calls, images, isa, lines, steps};
+use vectors::{calls, images, isa, lines, nights, steps};
 
 const USAGE: &str = "usage: model isa-input | isa-output | text-input | text-output | steps-input | steps-output | \
-                     calls-input | calls-output | listing | listing-case K";
+                     calls-input | calls-output | listing | listing-case K | pen-lists SEED DIR";
 
 /// The status when there is no such case.
 const NO_CASE: u8 = 1;
@@ -40,6 +45,7 @@ fn main() -> ExitCode {
         ["calls-output"] => write(calls::all_output().as_bytes()),
         ["listing"] => list_standard_input(),
         ["listing-case", number] => write_case(number),
+        ["pen-lists", seed, folder] => write_lists(seed, Path::new(folder)),
         _ => failed(USAGE),
     }
 }
@@ -59,6 +65,23 @@ fn write_case(number: &str) -> ExitCode {
         Ok(Some(input)) => write(&input),
         Ok(None) => ExitCode::from(NO_CASE),
         Err(_) => failed(USAGE),
+    }
+}
+
+/// Writes the files of a night at the pen bench into a folder, which is made
+/// where there is none.
+fn write_lists(seed: &str, folder: &Path) -> ExitCode {
+    let files = match seed.parse() {
+        Ok(seed) => nights::files(seed),
+        Err(_) => return failed(USAGE),
+    };
+    let mut written = fs::create_dir_all(folder);
+    for (name, bytes) in files {
+        written = written.and_then(|()| fs::write(folder.join(name), bytes));
+    }
+    match written {
+        Ok(()) => ExitCode::SUCCESS,
+        Err(error) => failed(&error.to_string()),
     }
 }
 

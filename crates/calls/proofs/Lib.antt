@@ -1,2 +1,3 @@
 pub mod Giving
 pub mod Answering
+pub mod Passed

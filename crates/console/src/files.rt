@@ -3,6 +3,7 @@ use crate::values;
 use libc::EACCES;
 use libc::EISDIR;
 use libc::ENOENT;
+use libc::STDERR_FILENO;
 
 fn reason(number: i32, otherwise: &[u8], path: &[u8]) {
     if number == ENOENT {
@@ -45,4 +46,17 @@ pub fn open(path: &[u8]) -> i32 {
 pub fn empty(file: i32, path: &[u8]) {
     values::complain(b"the file is empty", path);
     libc::close(file);
+}
+
+// Where a standard descriptor is closed, a file would be opened in its place, and written over: so the empty device is.
+pub fn hold_standard() {
+    let mut i: u8 = 0;
+    while i < 3 {
+        let file = os::open_read(b"/dev/null");
+        if STDERR_FILENO < file {
+            libc::close(file);
+            return;
+        }
+        i += 1;
+    }
 }

@@ -7,5 +7,5 @@ pub mod paths;
 pub mod rows;
 pub mod texts;
 pub mod values;
-mod version;
+pub mod version;
 pub mod words;

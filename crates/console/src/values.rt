@@ -11,14 +11,15 @@ pub struct Taken {
     pub to: usize,
 }
 
-fn printable(b: u8) -> u8 {
+// A byte as it may be shown on a terminal: a control character as a question mark.
+pub fn printable(b: u8) -> u8 {
     match b {
         0..=31 | 127 => b'?',
         _ => b,
     }
 }
 
-// A word as it may be shown on a terminal: control characters as question marks.
+// A word as it may be shown on a terminal.
 pub fn show(word: &[u8]) {
     let mut i: usize = 0;
     while i < word.len() {

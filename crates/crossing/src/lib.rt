@@ -28,7 +28,8 @@ pub struct Crossing {
     pub met: Met,
 }
 
-fn cause(ending: Ending) -> u8
+// The number of a run's cause.
+pub fn cause(ending: Ending) -> u8
     ensures { λ r. ⌜ r ≡ endingNumber ending ⌝ }
 {
     match ending {

@@ -3,6 +3,7 @@ use console::arguments;
 use console::arguments::Settings;
 use console::commands;
 use console::commands::Found;
+use console::files;
 use console::lines::Line;
 use console::words;
 use orders::images;
@@ -98,7 +99,7 @@ fn begin(s: Settings, ram: &mut [u8], journal: &mut [u16]) {
 }
 
 fn main() {
-    input::hold_standard();
+    files::hold_standard();
     let s = arguments::read();
     let bytes = s.ram;
     let words = s.words;

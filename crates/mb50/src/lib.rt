@@ -8,6 +8,7 @@ ghost use Rattle.calls.specs.Inputs.{Input};
 ghost use Rattle.machine.specs.Asked.{asked};
 ghost use Rattle.boundary.specs.Boundary.{Crosses, listed, assembled};
 ghost use Rattle.crossing.specs.Crossing.{CrossesWatched};
+ghost use Rattle.pen_crossing.specs.Crossing.{CrossesPen};
 ghost use mathlib.Core.Path.{_≡_};
 ghost use lib.ListN.{length};
 ghost use Rattle.text.specs.Listing.{listSays, listLeaves};
@@ -117,6 +118,23 @@ pub extern "C" fn mb50_run_watched(
     let c = crossing::cross_points(state, ram, journal, p, budget);
     entries::mark(list, c.met);
     c.result
+}
+
+// A pen by its line. Of the setup the first words are the name's address, the stop and the budget, then each given register's number and content.
+#[no_mangle]
+pub extern "C" fn mb50_pen<'a>(
+    state: &mut [u16; 32],
+    ram: &mut [u8],
+    journal: &mut [u16],
+    line: &[u8],
+    today: &'a [u8],
+    last_good: &'a [u8],
+    setup: &[u16],
+) -> u64
+    ensures { λ r. ⌜ CrossesPen (now (line .entry)) (now (today .entry)) (now («last_good» .entry)) (now (setup .entry))
+        (now (state .entry)) (now (ram .entry)) (now (journal .entry)) r (now (state .exit)) (now (ram .exit)) (now (journal .exit)) ⌝ }
+{
+    pen_crossing::cross_pen(state, ram, journal, line, today, last_good, setup)
 }
 
 #[no_mangle]

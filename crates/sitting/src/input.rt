@@ -3,7 +3,6 @@ use crate::state;
 use crate::state::Desk;
 use console::lines;
 use console::lines::Line;
-use libc::STDERR_FILENO;
 
 fn prompt(d: Desk) {
     if (d.depth == 0) & d.is_terminal {
@@ -30,18 +29,5 @@ pub fn unread(d: Desk, l: Line) -> Desk {
             state::left(d)
         }
         Line::End => state::left(d),
-    }
-}
-
-// Where a standard descriptor is closed, a file would be opened in its place, and written over: so the empty device is.
-pub fn hold_standard() {
-    let mut i: u8 = 0;
-    while i < 3 {
-        let file = os::open_read(b"/dev/null");
-        if STDERR_FILENO < file {
-            libc::close(file);
-            return;
-        }
-        i += 1;
     }
 }

@@ -1,0 +1,6 @@
+pub mod Lined
+pub mod Heads
+pub mod Named
+mod Digits
+mod Keys
+mod Parts

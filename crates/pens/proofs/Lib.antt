@@ -1,0 +1,5 @@
+pub mod Given
+pub mod Lettered
+pub mod Checks
+pub mod Joined
+pub mod Listed

@@ -1,0 +1,5 @@
+pub mod Passing
+pub mod Cutting
+pub mod Accepted
+pub mod Nights
+pub mod Single

@@ -1,0 +1,147 @@
+-- Demand 3 over a night's work: a pen is a list of calls, so a list of deeds is one too.
+use Prim.Native.Nat.{ℕ, zero, suc}
+use mathlib.Core.Path.{_≡_, refl, sym, _∙_, ap, subst}
+use mathlib.Core.List.{List, [], _∷_, _++_}
+use native.Mathlib.Omega.{arith}
+use Rattle.bus.specs.Good.{Within}
+use Rattle.bus.specs.declared.state.Cpu.{Cpu}
+use Rattle.history.specs.Trace.{Box, Call, run, Left, leaves, upTo, one}
+use Rattle.history.specs.Ring.{slots}
+use Rattle.calls.specs.Inputs.{Input, step, machine}
+use Rattle.calls.specs.Calls.{W, checkOf, worldOf, started}
+use Rattle.calls.specs.declared.state.Machine.{Machine as MachineT}
+use Rattle.entries.specs.Entries.{entry}
+use Rattle.manifests.specs.Manifests.{heldOf}
+use Rattle.manifests.specs.declared.Held.{Held}
+use Rattle.pens.specs.Pen.{Penned, stopIn, budgetIn, preparing, made, matching, penNamed, penOf, pensOf, afterPens}
+use Rattle.pens.specs.Code.{reportAs}
+use Rattle.pens.proofs.Checks.{accepts}
+use Rattle.exact.specs.Demand3.{Allowed}
+use Rattle.exact.proofs.Lawful.{GoodBox}
+use Rattle.exact.proofs.Counts.{journal}
+use Rattle.exact.proofs.Played.{P, at, playing, starting, AptCalls, plays, reached}
+use Rattle.exact.proofs.Stands.{stands}
+use Rattle.exact.proofs.Seen.{calls, all-apt, played}
+use Rattle.pens_exact.specs.Cut.{Typed}
+use Rattle.pens_exact.specs.Nights.{Deed, done, pen, machineAfter, ramAfter, wordsAfter, Kept, Chain, last, named}
+use Rattle.pens_exact.specs.Nights.{leftByEach, leftByPen, leftByDeed, leftBy, Demand3Pens, Line, deedsOf, linesOf, reportsOf}
+use Rattle.pens_exact.proofs.Accepted.{number-zero, pen-go, run-goes, refused-pen}
+
+-- ---- calls after calls
+play-on : (n : ℕ) (cs ds : List (Call Input)) (p : P) → playing n (cs ++ ds) p ≡ playing n ds (playing n cs p)
+play-on n [] ds p = refl
+play-on n (c ∷ cs) ds p = play-on n cs ds (one machine journal checkOf (upTo n) c p)
+
+apt-on : (cs ds : List (Call Input)) → AptCalls cs → AptCalls ds → AptCalls (cs ++ ds)
+apt-on [] ds f g = g
+apt-on (c ∷ cs) ds f g = (f .0, apt-on cs ds (f .1) g)
+
+-- ---- an accepted pen
+typed : (b : Box Cpu) → GoodBox b → Typed (b .cpu) (b .ram)
+typed b g =
+    record {
+      regs = g .cpu .regs;
+      long = g .cpu .csrs .long;
+      words = g .cpu .csrs .words;
+      board = g .cpu .board;
+      bytes = g .bytes;
+    }
+
+-- calls that the rules play from p to q
+record Plays (n : ℕ) (p q : P) : Type 0 where
+  by : List (Call Input)
+  apt : AptCalls by
+  leads : playing n by p ≡ q
+
+module _ (h : Held) (name setup : List ℕ) (w : W) where
+  -- the machine as the pen's run finds it
+  abbrev ready : W
+  ready = made (preparing setup name) w
+
+  -- its pokes, its given registers, and a plain run of its run's steps
+  pen-plays : Within 16 setup → GoodBox (w .box) → penNamed h name setup w .number ≡ 0 → (n : ℕ) (l : Left Input)
+      → Plays n (at w l) (at (penNamed h name setup w .world) (leftByPen n setup name 0 (penNamed h name setup w .steps) l))
+  pen-plays f g e n l =
+      let z = number-zero h name setup w e in
+      let c = pen-go h name setup w f (typed (w .box) g) z in
+      let a = matching setup ready in
+      let i = leftByEach n (preparing setup name) l in
+      record {
+        by = preparing setup name ++ (run (a .steps) ∷ []);
+        apt = apt-on (preparing setup name) (run (a .steps) ∷ []) (c .apt) (tt, tt);
+        leads =
+            play-on n (preparing setup name) (run (a .steps) ∷ []) (at w l)
+            ∙ ap (playing n (run (a .steps) ∷ [])) (c .plays n l)
+            ∙ stands (budgetIn setup) (entry (stopIn setup) 1 0 ∷ []) ready n i
+            ∙ ap (λ (k : ℕ). at (a .world) (leaves (upTo n) step (run (budgetIn setup)) k (a .steps) i)) (run-goes setup ready (c .passing) .0)
+            ∙ ap (λ (x : Penned). at (x .world) (leftByPen n setup name 0 (x .steps) l)) (sym (accepts h name setup w z));
+      }
+
+-- ---- deed after deed
+module _ (m₀ ws₀ : List ℕ) (ok : Allowed m₀ ws₀) where
+  abbrev Reaches : P → Type 0
+  Reaches p = Plays (slots ws₀) (starting m₀ ws₀) p
+
+  further : {p q : P} → Reaches p → Plays (slots ws₀) p q → Reaches q
+  further {p} {q} r s =
+      record {
+        by = r .by ++ s .by;
+        apt = apt-on (r .by) (s .by) (r .apt) (s .apt);
+        leads = play-on (slots ws₀) (r .by) (s .by) (starting m₀ ws₀) ∙ ap (playing (slots ws₀) (s .by)) (r .leads) ∙ s .leads;
+      }
+
+  good : (w : W) (l : Left Input) → Reaches (at w l) → GoodBox (w .box)
+  good w l r = subst (λ (p : P). GoodBox (p .world .box)) (r .leads) (reached m₀ ws₀ (r .by) ok (r .apt) .good)
+
+  pen-on : (line today old setup : List ℕ) (w v : W) (number steps : ℕ) (l : Left Input) → Within 16 setup → Reaches (at w l)
+      → penOf line today old setup w .number ≡ number → penOf line today old setup w .steps ≡ steps → penOf line today old setup w .world ≡ v
+      → Reaches (at v (leftByPen (slots ws₀) setup (named line today old) number steps l))
+  unfolding penOf
+  pen-on line today old setup w v zero steps l f r e s q =
+      let h = heldOf line today old in
+      let name = named line today old in
+      let t = further r (pen-plays h name setup w f (good w l r) e (slots ws₀) l) in
+      subst (λ (x : W). Reaches (at x (leftByPen (slots ws₀) setup name 0 steps l))) q
+      (subst (λ (k : ℕ). Reaches (at (penNamed h name setup w .world) (leftByPen (slots ws₀) setup name 0 k l))) s t)
+  pen-on line today old setup w v (suc number) steps l f r e s q =
+      subst (λ (x : W). Reaches (at x l)) (sym (refused-pen line today old setup w (λ z. absurd (omega (arith, e, z)))) ∙ q) r
+
+  deed-on : (m : MachineT) (ram ws : List ℕ) (l : Left Input) (x : Deed) → Kept m ram ws x → Reaches (at (worldOf m ram ws) l)
+      → Reaches (at (worldOf (machineAfter x) (ramAfter x) (wordsAfter x)) (leftByDeed (slots ws₀) x l))
+  deed-on m ram ws l (done x) k r =
+      further r
+      (record { by = calls (x ∷ []); apt = all-apt m ram ws (x ∷ []) (k, tt); leads = played (slots ws₀) m ram ws l (x ∷ []) (k, tt) })
+  deed-on m ram ws l (pen line today old setup p ram′ ws′) k r =
+      pen-on line today old setup (worldOf m ram ws) (worldOf (p .machine) ram′ ws′) (p .number) (p .steps) l (k .0) r
+      (ap (λ (a : Penned). a .number) (k .1)) (ap (λ (a : Penned). a .steps) (k .1)) (ap (λ (a : Penned). a .world) (k .1))
+
+  all-on : (m : MachineT) (ram ws : List ℕ) (l : Left Input) (xs : List Deed) → Chain m ram ws xs → Reaches (at (worldOf m ram ws) l)
+      → Reaches (at (last m ram ws xs) (leftBy (slots ws₀) l xs))
+  all-on m ram ws l [] ch r = r
+  all-on m ram ws l (x ∷ xs) ch r =
+      all-on (machineAfter x) (ramAfter x) (wordsAfter x) (leftByDeed (slots ws₀) x l) xs (ch .1) (deed-on m ram ws l x (ch .0) r)
+
+pub demand3-pens : (m ws : List ℕ) (xs : List Deed) → Allowed m ws → Chain started m ws xs → Demand3Pens m ws xs
+demand3-pens m ws xs ok ch =
+    let r = all-on m ws ok started m ws (record { inputs = []; held = 0 }) xs ch (record { by = []; apt = tt; leads = refl }) in
+    let f = rw (r .leads) at (plays m ws ok (r .by) (r .apt)) in
+    record { state = f .state; held = f .held; refused = f .refused }
+
+-- ---- a list of pens is such a chain: it ends where the rules' list ends, and tells what that tells
+module _ (today old setup : List ℕ) where
+  pub after-pens : (m : MachineT) (ram ws : List ℕ) (ps : List Line) → Chain m ram ws (deedsOf today old setup ps)
+      → last m ram ws (deedsOf today old setup ps) ≡ afterPens (linesOf ps) today old setup (worldOf m ram ws)
+  unfolding afterPens
+  after-pens m ram ws [] ch = refl
+  after-pens m ram ws (p ∷ ps) ch =
+      after-pens (p .report .machine) (p .ram) (p .words) ps (ch .1)
+      ∙ ap (λ (a : Penned). afterPens (linesOf ps) today old setup (a .world)) (sym (ch .0 .1))
+
+  pub told-pens : (m : MachineT) (ram ws : List ℕ) (ps : List Line) → Chain m ram ws (deedsOf today old setup ps)
+      → reportsOf ps ≡ pensOf (linesOf ps) today old setup (worldOf m ram ws)
+  unfolding pensOf
+  told-pens m ram ws [] ch = refl
+  told-pens m ram ws (p ∷ ps) ch =
+      let a = reportAs (p .report) (p .ram) (p .words) in
+      ap (λ (t : List Penned). a ∷ t) (told-pens (p .report .machine) (p .ram) (p .words) ps (ch .1))
+      ∙ ap (λ (b : Penned). b ∷ pensOf (linesOf ps) today old setup (b .world)) (sym (ch .0 .1))

@@ -1,0 +1,1 @@
+// What the pen bench may count on, as theorems. No code.

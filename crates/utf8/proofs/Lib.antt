@@ -1,0 +1,5 @@
+mod Leads
+pub mod Reading
+mod Judging
+pub mod Encoding
+mod Examples
