@@ -93,9 +93,11 @@ impl Night {
     }
 }
 
-/// The number of the pen at a place.
+/// The number of the pen at a place: nine digits, as if drawn by lot. No two of the first 10,000 are alike.
 fn number(place: usize) -> usize {
-    100_000 + 7 * place
+    let mut mixed = place.wrapping_mul(0x9e37_79b9_7f4a_7c15);
+    mixed = (mixed ^ mixed >> 32).wrapping_mul(0xd6e8_feb8_6659_fd93);
+    100_000_000 + (mixed ^ mixed >> 32) % 800_000_000
 }
 
 /// A manifest. Every tenth line is of another pen, so many times over.

@@ -28,7 +28,7 @@ pub fn listing(input: &[u8]) -> Vec<u8> {
 
 /// The address and the image: "four hex digits of either case, newline", then
 /// the image.
-fn header(input: &[u8]) -> Option<(usize, &[u8])> {
+pub fn header(input: &[u8]) -> Option<(usize, &[u8])> {
     if input.len() < 5 || input[4] != b'\n' {
         return None;
     }

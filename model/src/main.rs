@@ -21,10 +21,13 @@ use std::io::{self, Read, Write};
 use std::path::Path;
 use std::process::ExitCode;
 
+use night::Night;
+use pens::{Lists, Setup};
 use vectors::{calls, images, isa, lines, nights, steps};
 
 const USAGE: &str = "usage: model isa-input | isa-output | text-input | text-output | steps-input | steps-output | \
-                     calls-input | calls-output | listing | listing-case K | pen-lists SEED DIR";
+                     calls-input | calls-output | listing | listing-case K | pen-lists SEED DIR | \
+                     night RAM SLOTS FIRMWARE PENS TODAY LASTGOOD WORD..";
 
 /// The status when there is no such case.
 const NO_CASE: u8 = 1;
@@ -46,6 +49,9 @@ fn main() -> ExitCode {
         ["listing"] => list_standard_input(),
         ["listing-case", number] => write_case(number),
         ["pen-lists", seed, folder] => write_lists(seed, Path::new(folder)),
+        ["night", ram, slots, firmware, pens, today, last_good, words @ ..] => {
+            write_night([ram, slots], [firmware, pens, today, last_good], words)
+        }
         _ => failed(USAGE),
     }
 }
@@ -83,6 +89,35 @@ fn write_lists(seed: &str, folder: &Path) -> ExitCode {
         Ok(()) => ExitCode::SUCCESS,
         Err(error) => failed(&error.to_string()),
     }
+}
+
+/// Writes what the pen bench prints for files: by so many bytes of RAM and
+/// slots, and by the words of a setup.
+fn write_night(sizes: [&str; 2], names: [&str; 4], words: &[&str]) -> ExitCode {
+    let sizes: Result<Vec<usize>, _> = sizes.iter().map(|size| size.parse()).collect();
+    let words: Result<Vec<u16>, _> = words.iter().map(|word| word.parse()).collect();
+    let (Ok(sizes), Ok(words)) = (sizes, words) else {
+        return failed(USAGE);
+    };
+    let files: io::Result<Vec<Vec<u8>>> = names.iter().map(fs::read).collect();
+    let files = match files {
+        Ok(files) => files,
+        Err(error) => return failed(&error.to_string()),
+    };
+    let Some((start, bytes)) = listing::header(&files[0]) else {
+        return failed("the firmware has no header");
+    };
+    write(&night::output(&Night {
+        ram: sizes[0],
+        slots: sizes[1],
+        firmware: (start as u16, bytes),
+        pens: &files[1],
+        lists: Lists {
+            today: &files[2],
+            last_good: &files[3],
+        },
+        setup: &Setup::of_words(&words),
+    }))
 }
 
 /// Writes bytes to standard output.

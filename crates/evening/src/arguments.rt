@@ -71,6 +71,7 @@ fn told_help(s: Settings) -> Settings {
     --ram N          bytes of RAM, 0 to 65504; 30000 unless given
     --slots N        records of the journal, 0 to 1024; 1024 unless given
     --version        tells the version
+    --help           tells what stands here
     FIRMWARE         four hexadecimal digits, a newline, then bytes: in memory from that address on at the start
     PENS             pen numbers, one a line
     TODAY            today's manifest: a number, a tab and a name in UTF-8 in each line

@@ -90,6 +90,10 @@ fn read_path(path: &[u8], out: &mut [u8]) -> Bytes {
 pub fn read(argument: usize, out: &mut [u8]) -> Bytes {
     let mut path = io::buffer();
     let n = os::arg(argument, &mut path);
+    if n == 0 {
+        notes::say(b"the name of a file is empty, or too long");
+        return none();
+    }
     read_path(words::front(&path, n), out)
 }
 
@@ -113,7 +117,7 @@ pub fn read_lines(argument: usize, out: &mut [u8]) -> Bytes {
 pub fn is_output_open() -> bool {
     let none = [0u8; 1];
     if libc::write(STDOUT_FILENO, &none[0..0]) < 0 {
-        notes::say(b"standard output is closed");
+        notes::say(b"standard output cannot be written");
         return false;
     }
     true

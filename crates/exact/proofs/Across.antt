@@ -74,7 +74,7 @@ words-mean m ws xs ok ch =
     gives-back (subst (λ (p : P). Reached (p .world)) e (reached m ws (calls xs) ok (all-apt started m ws xs ch)))
 
 -- ---- the fields of a result
-number-field : (n s b k : ℕ) → n ≤ 65535 → s ≤ 65535 → numberIn (packed n s b k) ≡ n
+pub number-field : (n s b k : ℕ) → n ≤ 65535 → s ≤ 65535 → numberIn (packed n s b k) ≡ n
 unfolding packed
 number-field n s b k l h = omega arith
 
@@ -133,7 +133,7 @@ module _ (a : Answer Cpu Ring) (o o′ : Owned) (words-are : cond (eqb (a .numbe
   meant-same e = rw (e, ram-is, journal-is)
 
   -- the words mean what the answer leaves: those of an accepted call were given for it, and a refused call changes nothing
-  world-kept : Reached (a .world) → ((a .number ≡ 0 → ⊥) → a .world ≡ meant o) → a .world ≡ meant o′
+  pub world-kept : Reached (a .world) → ((a .number ≡ 0 → ⊥) → a .world ≡ meant o) → a .world ≡ meant o′
   world-kept h unmoved = go (eqb (a .number) 0) refl
     where
       go : (t : Bool) → eqb (a .number) 0 ≡ t → a .world ≡ meant o′
@@ -170,7 +170,7 @@ module _ (c : Call Input) (o : Owned) (r : ℕ) (o′ : Owned) (k : Kept c o r o
       go stopped h = h
 
   -- bits 0–15 are the number of the answer
-  number-is : Budgeted c → numberIn r ≡ answerOf c (meant o) .number
+  pub number-is : Budgeted c → numberIn r ≡ answerOf c (meant o) .number
   number-is b = ap numberIn result-is ∙ number-field (a .number) _ _ _ (omega (arith, counts c (meant o) b .number)) (run-few b)
 
   -- what is left, by the result's number and steps, is what is left by the answer's
@@ -211,14 +211,14 @@ module _ (n : ℕ) (l : List Entry) (o : Owned) (r : ℕ) (o′ : Owned) (l′ :
 
 -- ---- a list of calls over the boundary
 -- the call that the rules play for it: of a watched run the plain run of its own steps
-abbrev stood : Exported → Call Input
+abbrev pub stood : Exported → Call Input
 stood (exported c r o) = c
 stood (watching n l r o l′) = run (stepsIn r)
 
 abbrev named : List Exported → List (Call Input)
 named xs = map stood xs
 
-stood-apt : (o : Owned) (x : Exported) → Promised o x → Apt machine FineUndo ruly (stood x)
+pub stood-apt : (o : Owned) (x : Exported) → Promised o x → Apt machine FineUndo ruly (stood x)
 stood-apt o (exported c r o′) k = apt c (k .0 .0)
 stood-apt o (watching n l r o′ l′) k = tt
 
@@ -234,7 +234,7 @@ abbrev plays-one : ℕ → Call Input → P → P
 plays-one n c p = one machine journal checkOf (upTo n) c p
 
 -- the rules' play of one call is what the words, RAM and journal mean
-crosses-one : (n : ℕ) (o : Owned) (l : Left Input) (x : Exported) → Promised o x → Reached (plays-one n (stood x) (at (meant o) l) .world) →
+pub crosses-one : (n : ℕ) (o : Owned) (l : Left Input) (x : Exported) → Promised o x → Reached (plays-one n (stood x) (at (meant o) l) .world) →
     plays-one n (stood x) (at (meant o) l) ≡ at (meant (ownedAfter x)) (leaves (upTo n) step (called x) (numberIn (resultIn x)) (stepsIn (resultIn x)) l)
 crosses-one n o l (exported c r o′) k h =
     ap (at (answerOf c (meant o) .world)) (sym (left-is c o r o′ (k .1) n l (k .0 .1)))

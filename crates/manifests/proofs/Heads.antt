@@ -1,20 +1,22 @@
--- A table of heads: what each head is, and that lines looked through from a head give the place that all lines give.
-use Prim.Native.Nat.{ℕ, _+_, _-_, _%_, _≤_, _<_}
+-- Tables of heads: what each head is, and that lines looked through from the later one of two heads give the place that all lines give.
+use Prim.Native.Nat.{ℕ, _+_, _-_, _/_, _%_, _≤_, _<_}
 use mathlib.Core.Path.{_≡_, refl, sym, ap, _∙_}
 use mathlib.Core.Bool.{Bool, true, false, cond}
-use mathlib.Core.List.{List, [], _∷_}
+use mathlib.Core.List.{List, [], _∷_, _++_, append-nil}
 use native.Mathlib.Omega.{arith}
 use native.Mathlib.Nat.{mod-lt}
 use borrow.Author.Tests.{eqb-true, eqb-false, eq-eqb, ne-eqb}
-use lib.Dec.{eqb}
-use lib.ListN.{length, getD, set, take, drop, replicate, length-set, length-replicate, getD-replicate}
-use lib.Seq.{getD-set-same, getD-set-other}
-use Rattle.manifests.specs.Manifests.{lines, isNumber, placeAmong, placeOf}
-use Rattle.manifests.specs.Code.{keyOf, firstLine, frontOf, lineEnd, placeFrom, noted, notedAll, headsOf, headBy, HeadsOf}
+use borrow.Rule.Slice.PartMut.{midOf, postOf, putMid}
+use lib.Dec.{eqb, ltb}
+use lib.ListN.{length, getD, set, take, drop, replicate, length-set, length-append, length-take, length-drop, drop-of-length-le, length-replicate, getD-replicate}
+use lib.Seq.{getD-set-same, getD-set-other, take-append-seam, drop-append-seam}
+use Rattle.manifests.specs.Manifests.{lines, isNumber, numberOf, placeAmong, placeOf, byNumber, heldOf}
+use Rattle.manifests.specs.Code.{keyOf, firstLine, frontOf, lineEnd, placeFrom, noted, notedAll, tableOf, headsOf, headIn, laterOf, headBy, byHeads, heldFrom, HeadsOf}
 use Rattle.manifests.specs.declared.Number.{Number}
 use Rattle.manifests.specs.declared.Number.the-variants.{Is, Not}
 use Rattle.manifests.specs.declared.fronts.Front.{Front}
 use Rattle.manifests.proofs.Lined.{LineAt, over-lines, one-line, no-line}
+use Rattle.manifests.proofs.Parts.{lent}
 use Rattle.manifests.proofs.Keys.{key-matches, look-past, key-got, got-end}
 
 -- ---- the table's length
@@ -32,11 +34,16 @@ unfolding notedAll
 noted-all-length size at [] t = refl
 noted-all-length size at (l ∷ ls) t = noted-all-length _ _ ls _ ∙ noted-length _ _ (keyOf l) t
 
+pub table-length : (k : ℕ) (s : List ℕ) → length (tableOf k s) ≡ k
+unfolding tableOf
+table-length k s = noted-all-length (length s) 0 (lines s) (replicate k (length s)) ∙ length-replicate k (length s)
+
 pub heads-length : (k : ℕ) (s : List ℕ) → length (headsOf k s) ≡ k
 unfolding headsOf
-heads-length k s = noted-all-length (length s) 0 (lines s) (replicate k (length s)) ∙ length-replicate k (length s)
+heads-length k s =
+    length-append (tableOf (k / 2) s) (tableOf (k - k / 2) s) ∙ omega (arith, table-length (k / 2) s, table-length (k - k / 2) s)
 
--- the table that `index` leaves is the manifest's
+-- the heads that `index` leaves are the manifest's
 pub heads-of : (s t : List ℕ) (k : ℕ) → t ≡ headsOf k s → HeadsOf s t
 heads-of s t k e = e ∙ ap (λ (n : ℕ). headsOf n s) (sym (ap length e ∙ heads-length k s))
 
@@ -108,8 +115,8 @@ module _ (s : List ℕ) (m : ℕ) where
       ∙ ap (λ (k : ℕ). cond (eqb (getD (noted (length s) at (keyOf l) t) m 0) (length s)) (firstHead k m (length s) (at + (length l + 1)) (lines (drop (at + (length l + 1)) s))) (getD (noted (length s) at (keyOf l) t) m 0)) n
       ∙ after (length s) at m (w .begins) (keyOf l) t (firstHead (length t) m (length s) (at + (length l + 1)) (lines (drop (at + (length l + 1)) s))) g
 
-  pub head-at : (k : ℕ) → m < k → getD (headsOf k s) m 0 ≡ firstHead k m (length s) 0 (lines s)
-  unfolding headsOf
+  pub head-at : (k : ℕ) → m < k → getD (tableOf k s) m 0 ≡ firstHead k m (length s) 0 (lines s)
+  unfolding tableOf
   head-at k h =
       let t : List ℕ = replicate k (length s) in
       let n : length t ≡ k = length-replicate k (length s) in
@@ -144,19 +151,99 @@ module _ (s : List ℕ) (k n : ℕ) where
   pub from-head : placeFrom n s (firstHead k (n % k) (length s) 0 (lines s)) ≡ placeOf n s
   from-head = over-lines s Begun none-begun line-begun 0
 
-pub no-head : (t : List ℕ) (n : ℕ) → length t ≡ 0 → 0 ≡ headBy t n
-unfolding headBy
+pub no-head : (t : List ℕ) (n : ℕ) → length t ≡ 0 → 0 ≡ headIn t n
+unfolding headIn
 no-head [] n e = refl
 no-head (x ∷ t) n e = absurd (omega arith)
 
--- with a manifest's table a look-up gives the manifest's place
-pub headed : (s t : List ℕ) (n : ℕ) → HeadsOf s t → placeFrom n s (headBy t n) ≡ placeOf n s
-unfolding headBy
-headed s [] n e = refl
-headed s (x ∷ t) n e =
+-- a look-up that begins at a table's head gives the manifest's place
+table-headed : (s t : List ℕ) (n : ℕ) → t ≡ tableOf (length t) s → placeFrom n s (headIn t n) ≡ placeOf n s
+unfolding headIn
+table-headed s [] n e = refl
+table-headed s (x ∷ t) n e =
     ap (λ (u : List ℕ). placeFrom n s (getD u (n % length (x ∷ t)) 0)) e
     ∙ ap (placeFrom n s) (head-at s (n % length (x ∷ t)) (length (x ∷ t)) (mod-lt n (omega arith)))
     ∙ from-head s (length (x ∷ t)) n
+
+-- so at the later one of two
+later-headed : (s : List ℕ) (n a b : ℕ) → placeFrom n s a ≡ placeOf n s → placeFrom n s b ≡ placeOf n s → placeFrom n s (laterOf a b) ≡ placeOf n s
+later-headed s n a b p q = go (ltb a b)
+  where
+    go : (t : Bool) → placeFrom n s (cond t b a) ≡ placeOf n s
+    go true = q
+    go false = p
+
+-- the two tables of a manifest's heads
+module _ (s t : List ℕ) (e : HeadsOf s t) where
+  abbrev first : List ℕ
+  first = tableOf (length t / 2) s
+
+  abbrev rest : List ℕ
+  rest = tableOf (length t - length t / 2) s
+
+  first-half : take (length t / 2) t ≡ first
+  unfolding headsOf
+  first-half = ap (take (length t / 2)) e ∙ ap (λ (k : ℕ). take k (first ++ rest)) (sym (table-length (length t / 2) s)) ∙ take-append-seam first rest
+
+  second-half : drop (length t / 2) t ≡ rest
+  unfolding headsOf
+  second-half = ap (drop (length t / 2)) e ∙ ap (λ (k : ℕ). drop k (first ++ rest)) (sym (table-length (length t / 2) s)) ∙ drop-append-seam first rest
+
+  own : (u : List ℕ) (k : ℕ) → u ≡ tableOf k s → u ≡ tableOf (length u) s
+  own u k q = q ∙ ap (λ (i : ℕ). tableOf i s) (sym (ap length q ∙ table-length k s))
+
+  -- with a manifest's heads a look-up gives the manifest's place
+  pub headed : (n : ℕ) → placeFrom n s (headBy t n) ≡ placeOf n s
+  unfolding headBy
+  headed n =
+      later-headed s n (headIn (take (length t / 2) t) n) (headIn (drop (length t / 2) t) n)
+      (table-headed s (take (length t / 2) t) n (own (take (length t / 2) t) (length t / 2) first-half))
+      (table-headed s (drop (length t / 2) t) n (own (drop (length t / 2) t) (length t - length t / 2) second-half))
+
+-- and a pen is found where it is held
+pub headed-held : (line today heads last more : List ℕ) → HeadsOf today heads → HeadsOf last more
+    → heldFrom line today heads last more ≡ heldOf line today last
+unfolding heldFrom heldOf
+headed-held line today heads last more e f = go (numberOf line)
+  where
+    go : (k : Number) → byHeads k today heads last more ≡ byNumber k today last
+    go (Is n) = rw (headed today heads e n, headed last more f n)
+    go Not = refl
+
+-- the code's parts of what it is lent are its two halves
+pub by-halves : (t : List ℕ) (n a b r : ℕ) → a ≡ headIn (take (length t / 2 - 0) (drop 0 t)) n → b ≡ headIn (take (length t - length t / 2) (drop (length t / 2) t)) n
+    → r ≡ laterOf a b → r ≡ headBy t n
+unfolding headBy
+by-halves t n a b r p q e =
+    let h : length t / 2 - 0 ≡ length t / 2 = omega arith in
+    e ∙ ap (λ (x : ℕ). laterOf x b) (p ∙ ap (λ (k : ℕ). headIn (take k t) n) h)
+    ∙ ap (laterOf (headIn (take (length t / 2) t) n)) (q ∙ ap (λ (u : List ℕ). headIn u n) (lent t (length t / 2)))
+
+-- ---- two tables put one after the other, as the code puts them
+module _ (s u a b : List ℕ) where
+  abbrev half : ℕ
+  half = length u / 2
+
+  -- what is lent after the first is filled
+  abbrev between : List ℕ
+  between = a ++ postOf 0 (half - 0) u
+
+  pub two-tables : a ≡ tableOf (length (midOf 0 (half - 0) u)) s → b ≡ tableOf (length (midOf half (length between - half) between)) s
+      → putMid half (length between - half) between b ≡ headsOf (length u) s
+  unfolding headsOf
+  two-tables e f =
+      let p : length (midOf 0 (half - 0) u) ≡ half = length-take (half - 0) u ∙ omega arith in
+      let n : length a ≡ half = ap length e ∙ table-length (length (midOf 0 (half - 0) u)) s ∙ p in
+      let m : length between ≡ length u = length-append a (postOf 0 (half - 0) u) ∙ omega (arith, n, length-drop (half - 0) u) in
+      let l : length (drop half between) ≡ length u - half = length-drop half between ∙ omega (arith, m) in
+      let q : length (midOf half (length between - half) between) ≡ length u - half =
+      length-take (length between - half) (drop half between) ∙ omega (arith, m, l) in
+      let x : take half between ≡ tableOf half s =
+      ap (λ (k : ℕ). take k between) (sym n) ∙ take-append-seam a (postOf 0 (half - 0) u) ∙ e ∙ ap (λ (k : ℕ). tableOf k s) p in
+      let y : b ≡ tableOf (length u - half) s = f ∙ ap (λ (k : ℕ). tableOf k s) q in
+      let g : length (drop half between) ≤ length between - half = omega (arith, m, l) in
+      let z : postOf half (length between - half) between ≡ [] = drop-of-length-le (drop half between) g in
+      rw (x, z, y) (ap (λ (r : List ℕ). tableOf half s ++ r) (append-nil (tableOf (length u - half) s)))
 
 -- ---- the table, line by line
 pub noted-none : (size at : ℕ) (k : Number) (t : List ℕ) → length t ≡ 0 → t ≡ noted size at k t
@@ -166,8 +253,8 @@ noted-none size at k t e = nothing t e ∙ sym (nothing (noted size at k t) (not
 abbrev pub notedFrom : List ℕ → ℕ → List ℕ → List ℕ
 notedFrom s at t = notedAll (length s) at (lines (drop at s)) t
 
-pub heads-begin : (s t u : List ℕ) → t ≡ replicate (length u) (length s) → (length t ≡ length u) × (notedFrom s 0 t ≡ headsOf (length t) s)
-unfolding headsOf
+pub heads-begin : (s t u : List ℕ) → t ≡ replicate (length u) (length s) → (length t ≡ length u) × (notedFrom s 0 t ≡ tableOf (length t) s)
+unfolding tableOf
 heads-begin s t u e =
     let n : length t ≡ length u = ap length e ∙ length-replicate (length u) (length s) in
     (n, ap (notedFrom s 0) (e ∙ ap (λ (k : ℕ). replicate k (length s)) (sym n)))

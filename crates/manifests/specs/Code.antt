@@ -1,14 +1,16 @@
 -- How the code reads a manifest: the digits in front of a line, the line's end, and the heads from which lines are looked through.
-use Prim.Native.Nat.{ℕ, zero, suc, _+_, _%_}
+use Prim.Native.Nat.{ℕ, zero, suc, _+_, _-_, _/_, _%_}
 use mathlib.Core.Path.{_≡_}
 use mathlib.Core.Bool.{cond}
-use mathlib.Core.List.{List, [], _∷_}
+use mathlib.Core.List.{List, [], _∷_, _++_}
 use lib.Dec.{ltb, eqb}
-use lib.ListN.{length, drop, getD, set, replicate}
-use Rattle.manifests.specs.Manifests.{lines, isDigit, valueAfter, numberOf, front, placeAmong}
+use lib.ListN.{length, take, drop, getD, set, replicate}
+use Rattle.manifests.specs.Manifests.{lines, isDigit, valueAfter, numberOf, front, placeAmong, orElse}
 use Rattle.manifests.specs.declared.Number.{Number}
 use Rattle.manifests.specs.declared.Number.the-variants.{Is, Not}
 use Rattle.manifests.specs.declared.Place.{Place}
+use Rattle.manifests.specs.declared.Held.{Held}
+use Rattle.manifests.specs.declared.Held.the-variants.{Neither}
 use Rattle.manifests.specs.declared.fronts.Digits.{Digits}
 use Rattle.manifests.specs.declared.fronts.Front.{Front}
 
@@ -54,13 +56,33 @@ notedAll size at [] t = t
 notedAll size at (l ∷ ls) t = notedAll size (at + (length l + 1)) ls (noted size at (keyOf l) t)
 
 -- a table of so many heads: for each remainder where the first line begins whose number has it; the manifest's length where there is none
+unfoldable pub tableOf : ℕ → List ℕ → List ℕ
+tableOf k s = notedAll (length s) 0 (lines s) (replicate k (length s))
+
+-- a manifest's heads: two tables, one of half as many and one of the rest. Of a length that is odd their lengths differ by one, so that numbers which
+-- share a remainder in one of them seldom do in the other
 unfoldable pub headsOf : ℕ → List ℕ → List ℕ
-headsOf k s = notedAll (length s) 0 (lines s) (replicate k (length s))
+headsOf k s = tableOf (k / 2) s ++ tableOf (k - k / 2) s
 
--- where a look-up begins; at the first line where the table is empty
+-- the head of a number in one table; the first line where the table is empty
+unfoldable pub headIn : List ℕ → ℕ → ℕ
+headIn t n = getD t (n % length t) 0
+
+abbrev pub laterOf : ℕ → ℕ → ℕ
+laterOf a b = cond (ltb a b) b a
+
+-- where a look-up begins: at the later one of a number's two heads
 unfoldable pub headBy : List ℕ → ℕ → ℕ
-headBy t n = getD t (n % length t) 0
+headBy t n = laterOf (headIn (take (length t / 2) t) n) (headIn (drop (length t / 2) t) n)
 
--- a table is a manifest's; an empty one is any manifest's
+-- a pen looked up from such heads, whatever they are
+abbrev pub byHeads : Number → List ℕ → List ℕ → List ℕ → List ℕ → Held
+byHeads (Is n) today heads last more = orElse (placeFrom n today (headBy heads n)) (placeFrom n last (headBy more n))
+byHeads Not today heads last more = Neither
+
+unfoldable pub heldFrom : List ℕ → List ℕ → List ℕ → List ℕ → List ℕ → Held
+heldFrom line today heads last more = byHeads (numberOf line) today heads last more
+
+-- heads are a manifest's own; an empty table is any manifest's
 abbrev pub HeadsOf : List ℕ → List ℕ → Type 0
 HeadsOf s t = t ≡ headsOf (length t) s

@@ -6,8 +6,8 @@ mod scanning;
 ghost use mathlib.Core.Path.{_≡_};
 ghost use Prim.Native.Nat.{_-_, _≤_, min};
 ghost use lib.ListN.{length, take, drop};
-ghost use Rattle.manifests.specs.Manifests.{numberOf, heldOf, nameOf};
-ghost use Rattle.manifests.specs.Code.{lineEnd, headsOf, HeadsOf};
+ghost use Rattle.manifests.specs.Manifests.{numberOf, nameOf};
+ghost use Rattle.manifests.specs.Code.{lineEnd, headsOf, heldFrom};
 
 pub enum Number {
     Is(u32),
@@ -60,7 +60,7 @@ pub fn line_end(s: &[u8], at: usize) -> usize
     i
 }
 
-// Where the name lies of a pen by its line. A table of heads makes it quick; without one, every line is looked through.
+// Where the name lies of a pen by its line, looked up from heads: a manifest's own make it quick, and empty ones have every line looked through.
 pub fn find(
     line: &[u8],
     today: &[u8],
@@ -68,11 +68,7 @@ pub fn find(
     last_good: &[u8],
     last_heads: &[usize],
 ) -> Held
-    ensures { λ r. ⌜
-        (HeadsOf (now (today .entry)) (now («today_heads» .entry))
-        → HeadsOf (now («last_good» .entry)) (now («last_heads» .entry))
-        → r ≡ heldOf (now (line .entry)) (now (today .entry)) (now («last_good» .entry)))
-        ⌝ }
+    ensures { λ r. ⌜ r ≡ heldFrom (now (line .entry)) (now (today .entry)) (now («today_heads» .entry)) (now («last_good» .entry)) (now («last_heads» .entry)) ⌝ }
 {
     let Number::Is(n) = read_number(line) else {
         return Held::Neither;
@@ -115,16 +111,11 @@ pub fn lookup<'a>(today: &'a [u8], last_good: &'a [u8], held: Held) -> &'a [u8]
     }
 }
 
-// The table of heads of a manifest, for `find`.
+// The heads of a manifest, for `find`: two tables, for remainders by two lengths.
 pub fn index(s: &[u8], heads: &mut [usize])
     ensures { λ _. ⌜ now (heads .exit) ≡ headsOf (length (now (heads .entry))) (now (s .entry)) ⌝ }
 {
-    indexing::fill(heads, s.len());
-    let mut at = 0;
-    while at < s.len() {
-        let f = fronts::read_front(&s[at..]);
-        let number = f.number;
-        indexing::note(heads, number, at, s.len());
-        at = line_end(s, at + f.read) + 1;
-    }
+    let half = heads.len() / 2;
+    indexing::table(s, &mut heads[0..half]);
+    indexing::table(s, &mut heads[half..]);
 }

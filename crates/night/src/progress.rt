@@ -6,13 +6,14 @@ use crate::totals::Totals;
 use console::rows;
 use libc::STDERR_FILENO;
 use libc::STDOUT_FILENO;
-ghost use Prim.Native.Nat.{_≤_};
-ghost use lib.ListN.{length};
 
 // The clock is looked at after so many pens, and progress is shown after so many microseconds at the earliest.
 const PENS: u64 = 16;
 
 const PAUSE: u64 = 100000;
+
+// The seconds after which pens a second are told: the clock has whole seconds only.
+const RATED: u64 = 10;
 
 fn whole(n: i64) -> u64 {
     if n < 0 {
@@ -59,7 +60,7 @@ pub fn begin(list: &[u8]) -> Totals {
 }
 
 fn put_rate(row: &mut [u8], at: usize, done: u64, time: u64) -> usize {
-    if time == 0 {
+    if time < RATED {
         return at;
     }
     let p = rows::put_all(row, at, b", ");

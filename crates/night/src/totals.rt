@@ -136,7 +136,7 @@ fn tell_refused(t: Totals, room: &[u8]) {
 // What a night came to, at its end.
 pub fn tell_all(t: Totals, room: &[u8]) {
     notes::begin();
-    tell(t.done, b" pens: ");
+    tell(t.done, b" done: ");
     tell(t.stop, b" stop, ");
     tell(t.halted, b" halted, ");
     tell(t.budget, b" budget, ");
@@ -150,6 +150,7 @@ pub fn tell_all(t: Totals, room: &[u8]) {
     }
     if t.lost != 0 {
         notes::begin();
-        tell(t.lost, b" lines could not be written\n");
+        notes::text(b"lines that could not be written: ");
+        tell(t.lost, b"\n");
     }
 }

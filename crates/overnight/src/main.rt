@@ -51,10 +51,11 @@ fn list_room() -> [u8; 1048577]
     [0u8; 1048577]
 }
 
-fn heads_room() -> [usize; 65536]
-    ensures { λ r. ⌜ 65536 ≡ length r ⌝ }
+// Room for two tables of heads, of 65,535 and of 65,536.
+fn heads_room() -> [usize; 131071]
+    ensures { λ r. ⌜ 131071 ≡ length r ⌝ }
 {
-    [0usize; 65536]
+    [0usize; 131071]
 }
 
 // Room for the longest line: a name has at most 65,503 letters of two bytes each.
@@ -154,9 +155,9 @@ fn list<'a>(
     row: &mut [u8],
     refused: &mut [u8],
 ) -> Listed
-    ensures { λ r. ⌜ (HeadsOf (now (today .entry)) (now («today_heads» .entry)) → HeadsOf (now («last_good» .entry)) (now («last_heads» .entry))
-        → worldOf (r .machine) (now (ram .exit)) (now (journal .exit))
-        ≡ afterPens (linesOf (now (lines .entry))) (now (today .entry)) (now («last_good» .entry)) (now (setup .entry)) (worldOf m (now (ram .entry)) (now (journal .entry)))) ⌝ }
+    requires { ⌜ HeadsOf (now today) (now «today_heads») × HeadsOf (now «last_good») (now «last_heads») ⌝ }
+    ensures { λ r. ⌜ worldOf (r .machine) (now (ram .exit)) (now (journal .exit))
+        ≡ afterPens (linesOf (now (lines .entry))) (now (today .entry)) (now («last_good» .entry)) (now (setup .entry)) (worldOf m (now (ram .entry)) (now (journal .entry))) ⌝ }
 {
     let mut machine = m;
     let mut totals = t;

@@ -52,17 +52,17 @@ pub fn cross_pen<'a>(
         (now (state .entry)) (now (ram .entry)) (now (journal .entry)) r (now (state .exit)) (now (ram .exit)) (now (journal .exit)) ⌝ }
 {
     let m = words::taken(*state);
-    let none = [0usize; 1];
-    let no_more = [0usize; 1];
+    let today_heads = [0usize; 1];
+    let last_heads = [0usize; 1];
     let r = pens::pen(
         m,
         ram,
         journal,
         line,
         today,
-        &none[0..0],
+        &today_heads[0..0],
         last_good,
-        &no_more[0..0],
+        &last_heads[0..0],
         setup,
     );
     answer(state, r)

@@ -6,7 +6,7 @@ use mathlib.Core.List.{List}
 use native.Mathlib.Omega.{arith}
 use borrow.Author.Tests.{lt-leb, le-leb, ltb-true, ltb-false, leb-true}
 use lib.Dec.{leb, ltb}
-use lib.ListN.{length, drop}
+use lib.ListN.{length}
 use Rattle.calls.specs.Calls.{W, checkOf}
 use Rattle.calls.proofs.Passed.{ram-fits}
 use Rattle.watched.specs.Answer.{orElse}
@@ -15,7 +15,7 @@ use Rattle.utf8.specs.declared.Judged.{Judged}
 use Rattle.utf8.specs.declared.Judged.the-variants.{Fine, NotUtf8, NotLatin}
 use Rattle.manifests.specs.declared.Held.{Held}
 use Rattle.manifests.specs.declared.Held.the-variants.{Today, LastGood, Neither}
-use Rattle.pens.specs.Pen.{addressIn, givenIn, allRegisters, judgedCheck, nameCheck, firstCheck, Penned, refused, unlessRefused, preparing, made, matching, reported, penNamed}
+use Rattle.pens.specs.Pen.{addressIn, givenIn, allRegisters, judgedCheck, nameCheck, firstCheck, penCheck, refused, unlessRefused, preparing, made, matching, reported, penNamed}
 
 -- ---- room in RAM
 pub no-room : (at n ram : ℕ) → ram ≤ at → false ≡ leb (at + (n + 1)) ram
@@ -66,7 +66,7 @@ module _ (at ram : ℕ) where
   unfolding judgedCheck
   judged-fits n z = fits-by (leb (at + (n + 1)) ram) n refl z
 
-  name-fits : (h : Held) (n : ℕ) → nameCheck h (Fine n) at ram ≡ 0 → at + (n + 1) ≤ ram
+  pub name-fits : (h : Held) (n : ℕ) → nameCheck h (Fine n) at ram ≡ 0 → at + (n + 1) ≤ ram
   unfolding nameCheck
   name-fits (Today a e) n z = judged-fits n z
   name-fits (LastGood a e) n z = judged-fits n z
@@ -90,7 +90,7 @@ pub none-of : (a b : ℕ) → orElse a b ≡ 0 → (a ≡ 0) × (b ≡ 0)
 none-of zero b e = (refl, e)
 none-of (suc a) b e = absurd (omega (arith, e))
 
-registers : (t : Bool) → _≡_ {A = ℕ} (cond t 0 6) 0 → t ≡ true
+pub registers : (t : Bool) → _≡_ {A = ℕ} (cond t 0 6) 0 → t ≡ true
 registers true e = refl
 registers false e = absurd (omega (arith, e))
 
@@ -98,19 +98,18 @@ registers false e = absurd (omega (arith, e))
 pub first-of : (setup : List ℕ) (w : W) (t : Bool) (c n : ℕ) → t ≡ allRegisters (givenIn setup) → c ≡ checkOf w → n ≡ orElse c (cond t 0 6) → n ≡ firstCheck setup w
 first-of setup w t c n e f q = q ∙ ap (λ (x : ℕ). orElse x (cond t 0 6)) f ∙ ap (λ (b : Bool). orElse (checkOf w) (cond b 0 6)) e
 
-module _ (h : Held) (name setup : List ℕ) (w : W) where
-  abbrev pub numberOf : Judged → ℕ
-  numberOf j = orElse (firstCheck setup w) (nameCheck h j (addressIn setup) (length (w .box .ram)))
+-- the number as the code comes to it
+pub number-as : (h : Held) (j : Judged) (setup : List ℕ) (w : W) (n f k at : ℕ) → n ≡ orElse f k → f ≡ firstCheck setup w
+    → k ≡ nameCheck h j at (length (w .box .ram)) → at ≡ addressIn setup → n ≡ penCheck h j setup w
+number-as h j setup w n f k at e p q r =
+    e ∙ ap (λ (x : ℕ). orElse x k) p ∙ ap (orElse (firstCheck setup w)) (q ∙ ap (λ (x : ℕ). nameCheck h j x (length (w .box .ram))) r)
 
-  -- the number as the code comes to it
-  pub number-as : (n f k : ℕ) (j : Judged) (at : ℕ) → n ≡ orElse f k → f ≡ firstCheck setup w → k ≡ nameCheck h j at (length (w .box .ram)) → j ≡ judgedOf name
-      → at ≡ addressIn setup → n ≡ numberOf (judgedOf name)
-  number-as n f k j at e p q r s =
-      e ∙ ap (λ (x : ℕ). orElse x k) p
-      ∙ ap (orElse (firstCheck setup w)) (q ∙ ap (λ (x : Judged). nameCheck h x at (length (w .box .ram))) r ∙ ap (λ (x : ℕ). nameCheck h (judgedOf name) x (length (w .box .ram))) s)
+module _ (h : Held) (name setup : List ℕ) (w : W) where
+  pub judged-number : (j : Judged) (n : ℕ) → j ≡ judgedOf name → n ≡ penCheck h j setup w → n ≡ penCheck h (judgedOf name) setup w
+  judged-number j n e f = f ∙ ap (λ (x : Judged). penCheck h x setup w) e
 
   -- what the code asks for where nothing refuses
-  pub nothing-refuses : (n : ℕ) → judgedOf name ≡ Fine n → numberOf (judgedOf name) ≡ 0
+  pub nothing-refuses : (n : ℕ) → judgedOf name ≡ Fine n → penCheck h (judgedOf name) setup w ≡ 0
       → (judgedOf name ≡ Fine n) × (addressIn setup + (n + 1) ≤ 65536) × (allRegisters (givenIn setup) ≡ true)
   nothing-refuses n e z =
       let a = none-of (firstCheck setup w) (nameCheck h (Fine n) (addressIn setup) (length (w .box .ram))) (rw e at z) in
@@ -119,12 +118,12 @@ module _ (h : Held) (name setup : List ℕ) (w : W) where
       (e, omega (arith, f, ram-fits w (b .0)), registers (allRegisters (givenIn setup)) (b .1))
 
   -- a name that is not fine does not get as far
-  pub never : (j : Judged) → judgedOf name ≡ j → ((n : ℕ) → j ≡ Fine n → ⊥) → numberOf (judgedOf name) ≡ 0 → ⊥
+  pub never : (j : Judged) → judgedOf name ≡ j → ((n : ℕ) → j ≡ Fine n → ⊥) → penCheck h (judgedOf name) setup w ≡ 0 → ⊥
   never j e f z =
       let a = none-of (firstCheck setup w) (nameCheck h j (addressIn setup) (length (w .box .ram))) (rw e at z) in
       name-fine (addressIn setup) (length (w .box .ram)) h j f (a .1)
 
-  pub denies : (n : ℕ) → n ≡ numberOf (judgedOf name) → (n ≡ 0 → ⊥) → penNamed h name setup w ≡ refused n h w
+  pub denies : (n : ℕ) → n ≡ penCheck h (judgedOf name) setup w → (n ≡ 0 → ⊥) → penNamed h name setup w ≡ refused n h w
   unfolding penNamed
   denies n e f = ap (λ (x : ℕ). unlessRefused x h w (reported h (matching setup (made (preparing setup name) w)))) (sym e) ∙ go n f
     where
@@ -132,7 +131,7 @@ module _ (h : Held) (name setup : List ℕ) (w : W) where
       go zero z = absurd (z refl)
       go (suc k) z = refl
 
-  pub accepts : numberOf (judgedOf name) ≡ 0 → penNamed h name setup w ≡ reported h (matching setup (made (preparing setup name) w))
+  pub accepts : penCheck h (judgedOf name) setup w ≡ 0 → penNamed h name setup w ≡ reported h (matching setup (made (preparing setup name) w))
   unfolding penNamed
   accepts e = ap (λ (x : ℕ). unlessRefused x h w (reported h (matching setup (made (preparing setup name) w)))) e
 

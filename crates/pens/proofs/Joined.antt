@@ -9,10 +9,12 @@ use Rattle.watched.specs.Answer.{watchedOf}
 use Rattle.watched.specs.Code.{answerAs}
 use Rattle.watched.specs.declared.Watched.{Watched as WatchedT}
 use Rattle.utf8.specs.Latin.{latinOf}
-use Rattle.manifests.specs.Manifests.{heldOf, nameOf}
+use Rattle.manifests.specs.Manifests.{nameOf}
+use Rattle.manifests.specs.Code.{HeadsOf, heldFrom}
 use Rattle.manifests.specs.declared.Held.{Held}
+use Rattle.manifests.proofs.Heads.{headed-held}
 use Rattle.pens.specs.Pen.{addressIn, stopIn, budgetIn, givenIn, settings, pokings, preparing, made, matching, Penned, reported, penNamed, penOf}
-use Rattle.pens.specs.Code.{reportAs, reportOf}
+use Rattle.pens.specs.Code.{penFrom, reportAs, reportOf}
 use Rattle.pens.specs.declared.Report.{Report}
 use Rattle.pens.proofs.Given.{made-append}
 
@@ -31,8 +33,15 @@ runs h setup w stop budget r x ram ws l e f q p =
     ∙ ap (reported h) q ∙ ap (λ (y : Report). reportAs y ram ws) (sym p)
 
 -- a pen by its line, from the look-up
-pub by-line : (line today last setup : List ℕ) (w : W) (h : Held) (name : List ℕ) (a : Penned) → h ≡ heldOf line today last → name ≡ nameOf today last h
-    → penNamed h name setup w ≡ a → penOf line today last setup w ≡ a
-unfolding penOf
-by-line line today last setup w h name a e f q =
+pub by-line : (line today heads last more setup : List ℕ) (w : W) (h : Held) (name : List ℕ) (a : Penned) → h ≡ heldFrom line today heads last more
+    → name ≡ nameOf today last h → penNamed h name setup w ≡ a → penFrom line today heads last more setup w ≡ a
+unfolding penFrom
+by-line line today heads last more setup w h name a e f q =
     ap (λ (k : Held). penNamed k (nameOf today last k) setup w) (sym e) ∙ ap (λ (n : List ℕ). penNamed h n setup w) (sym f) ∙ q
+
+-- with the manifests' own heads it is the pen of the rules
+pub headed-pen : (line today heads last more setup : List ℕ) (w : W) → HeadsOf today heads → HeadsOf last more
+    → penOf line today last setup w ≡ penFrom line today heads last more setup w
+unfolding penOf penFrom
+headed-pen line today heads last more setup w e f =
+    ap (λ (k : Held). penNamed k (nameOf today last k) setup w) (sym (headed-held line today heads last more e f))

@@ -1,5 +1,5 @@
 -- A name poked letter by letter.
-use Prim.Native.Nat.{ℕ, zero, suc, _+_, _-_, _%_, _≤_, _<_}
+use Prim.Native.Nat.{ℕ, suc, _+_, _-_, _%_, _≤_, _<_}
 use mathlib.Core.Path.{_≡_, refl, sym, _∙_, ap}
 use mathlib.Core.Bool.{true}
 use mathlib.Core.List.{List, [], _∷_, _++_}
@@ -8,8 +8,8 @@ use native.Mathlib.Omega.{arith}
 use native.Mathlib.Nat.{mod-eq-of-lt}
 use native.Mathlib.Decide.{decLt}
 use lib.ListN.{length, drop}
-use Rattle.history.specs.Trace.{Call, give}
-use Rattle.calls.specs.Inputs.{Input, poke}
+use Rattle.history.specs.Trace.{give}
+use Rattle.calls.specs.Inputs.{poke}
 use Rattle.calls.specs.Calls.{W, answerOf}
 use Rattle.utf8.specs.Utf8.{letterOf, onto, points}
 use Rattle.utf8.specs.Latin.{judgedOf, latinOf, allLatin}

@@ -1,15 +1,20 @@
 -- How the code's answer to a pen stands for the rules' own.
 use mathlib.Core.List.{List}
-use mathlib.Core.Path.{_≡_}
 use Prim.Native.Nat.{ℕ}
-use Rattle.calls.specs.Calls.{worldOf}
+use Rattle.calls.specs.Calls.{W, worldOf}
 use Rattle.calls.specs.declared.state.Machine.{Machine as MachineT}
+use Rattle.manifests.specs.Manifests.{nameOf}
+use Rattle.manifests.specs.Code.{heldFrom}
 use Rattle.manifests.specs.declared.Held.{Held}
 use Rattle.watching.specs.declared.Ending.the-variants as Ending
 use Rattle.watched.specs.declared.Watched.{Watched as WatchedT}
 use Rattle.bus.specs.State.{word}
-use Rattle.pens.specs.Pen.{Penned}
+use Rattle.pens.specs.Pen.{Penned, penNamed}
 use Rattle.pens.specs.declared.Report.{Report}
+
+-- a pen by its line, looked up from heads; with the manifests' own, or without any, it is `penOf` (`headed-pen`)
+unfoldable pub penFrom : List ℕ → List ℕ → List ℕ → List ℕ → List ℕ → List ℕ → W → Penned
+penFrom line today heads last more setup w = let h = heldFrom line today heads last more in penNamed h (nameOf today last h) setup w
 
 abbrev pub reportAs : Report → List ℕ → List ℕ → Penned
 reportAs r ram ws =

@@ -110,11 +110,14 @@ nameCheck Neither j at ram = 83
 abbrev pub firstCheck : List ℕ → W → ℕ
 firstCheck setup w = orElse (checkOf w) (cond (allRegisters (givenIn setup)) 0 6)
 
+-- all that refuses a pen, by its name's judgement
+abbrev pub penCheck : Held → Judged → List ℕ → W → ℕ
+penCheck h j setup w = orElse (firstCheck setup w) (nameCheck h j (addressIn setup) (length (w .box .ram)))
+
 -- a pen whose name was looked up
 unfoldable pub penNamed : Held → List ℕ → List ℕ → W → Penned
 penNamed h name setup w =
-    unlessRefused (orElse (firstCheck setup w) (nameCheck h (judgedOf name) (addressIn setup) (length (w .box .ram)))) h w
-    (reported h (matching setup (made (preparing setup name) w)))
+    unlessRefused (penCheck h (judgedOf name) setup w) h w (reported h (matching setup (made (preparing setup name) w)))
 
 -- a pen by its line
 unfoldable pub penOf : List ℕ → List ℕ → List ℕ → List ℕ → W → Penned

@@ -16,9 +16,8 @@ ghost use lib.ListN.{length, getD, drop};
 ghost use Rattle.calls.specs.Calls.{worldOf};
 ghost use Rattle.utf8.specs.Latin.{judgedOf};
 ghost use Rattle.utf8.specs.declared.Judged.the-variants.{Fine};
-ghost use Rattle.manifests.specs.Code.{HeadsOf};
-ghost use Rattle.pens.specs.Pen.{allRegisters, preparing, made, matching, reported, firstCheck, penNamed, penOf};
-ghost use Rattle.pens.specs.Code.{reportAs, refuse};
+ghost use Rattle.pens.specs.Pen.{allRegisters, preparing, made, matching, reported, firstCheck, penCheck, penNamed};
+ghost use Rattle.pens.specs.Code.{penFrom, reportAs, refuse};
 
 // A pen's answer: the refusal's number (0: accepted), where its name lies, r0, the run's steps and bus bytes, why it stopped, and the machine.
 pub struct Report {
@@ -89,7 +88,15 @@ pub fn refusal(m: Machine, ram: &[u8], journal: &[u16], setup: &[u16]) -> u8
     checking::or_else(checks::check(m, ram, journal), six)
 }
 
-// A pen whose name was looked up.
+// All that refuses a pen, by its name's judgement: 1, 2, 3, 6, 83, 80, 81, 82 or 0.
+fn pen_check(m: Machine, ram: &[u8], journal: &[u16], held: Held, j: Judged, setup: &[u16]) -> u8
+    ensures { λ r. ⌜ r ≡ penCheck held j (now (setup .entry)) (worldOf m (now (ram .entry)) (now (journal .entry))) ⌝ }
+{
+    let own = checking::name_check(held, j, giving::word_at(setup, 0), ram.len());
+    checking::or_else(refusal(m, ram, journal, setup), own)
+}
+
+// A pen whose name was looked up. One that nothing refuses has a fine name.
 pub fn pen_named(
     m: Machine,
     ram: &mut [u8],
@@ -102,19 +109,17 @@ pub fn pen_named(
         ≡ reportAs r (now (ram .exit)) (now (journal .exit)) ⌝ }
 {
     let j = utf8::judge(name);
-    let own = checking::name_check(held, j, giving::word_at(setup, 0), ram.len());
-    let number = checking::or_else(refusal(m, ram, journal, setup), own);
+    let number = pen_check(m, ram, journal, held, j, setup);
     if number != 0 {
         return refused(m, held, number);
     }
-    match j {
-        Judged::Fine(n) => accepted(m, ram, journal, held, name, n, setup),
-        Judged::NotUtf8 => refused(m, held, 80),
-        Judged::NotLatin => refused(m, held, 81),
-    }
+    let Judged::Fine(n) = j else {
+        return refused(m, held, number);
+    };
+    accepted(m, ram, journal, held, name, n, setup)
 }
 
-// A pen by its line. The tables of heads are of `manifests`: they make a look-up quick, and empty ones say nothing.
+// A pen by its line. The heads are of `manifests`: they make a look-up quick, and empty ones have every line looked through.
 pub fn pen<'a>(
     m: Machine,
     ram: &mut [u8],
@@ -126,9 +131,8 @@ pub fn pen<'a>(
     last_heads: &[usize],
     setup: &[u16],
 ) -> Report
-    ensures { λ r. ⌜ (HeadsOf (now (today .entry)) (now («today_heads» .entry)) → HeadsOf (now («last_good» .entry)) (now («last_heads» .entry))
-        → penOf (now (line .entry)) (now (today .entry)) (now («last_good» .entry)) (now (setup .entry)) (worldOf m (now (ram .entry)) (now (journal .entry)))
-        ≡ reportAs r (now (ram .exit)) (now (journal .exit))) ⌝ }
+    ensures { λ r. ⌜ penFrom (now (line .entry)) (now (today .entry)) (now («today_heads» .entry)) (now («last_good» .entry)) (now («last_heads» .entry))
+        (now (setup .entry)) (worldOf m (now (ram .entry)) (now (journal .entry))) ≡ reportAs r (now (ram .exit)) (now (journal .exit)) ⌝ }
 {
     let held = manifests::find(line, today, today_heads, last_good, last_heads);
     let name = manifests::lookup(today, last_good, held);

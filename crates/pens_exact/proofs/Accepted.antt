@@ -4,8 +4,8 @@ use mathlib.Core.Path.{_≡_, refl, sym, _∙_, ap, subst}
 use mathlib.Core.Bool.{Bool, true, false, cond, not, _&&_}
 use mathlib.Core.List.{List, [], _∷_, _++_}
 use native.Mathlib.Omega.{arith}
-use borrow.Author.Tests.{ltb-true, leb-true}
-use lib.Dec.{leb, ltb}
+use borrow.Author.Tests.{ltb-true}
+use lib.Dec.{ltb}
 use lib.ListN.{length, length-set}
 use lib.Seq.{getD-drop}
 use Rattle.bus.specs.State.{word}
@@ -19,7 +19,6 @@ use Rattle.calls.specs.Calls.{W, checkOf, answerOf, plainOf}
 use Rattle.calls.proofs.Giving.{pokes, sets}
 use Rattle.entries.specs.Entries.{entry, meets, anyOf, allKnown}
 use Rattle.entries.specs.declared.Entry.{Entry}
-use Rattle.entries.specs.declared.Met.{Met}
 use Rattle.watching.specs.Watched.{Stop, spent, caught, goes, turn, stored, reached}
 use Rattle.watching.specs.declared.Ending.{Ending}
 use Rattle.watching.specs.declared.Ending.the-variants.{Refused, Budget, Halted, Watch, Break}
@@ -30,11 +29,10 @@ use Rattle.utf8.specs.declared.Judged.the-variants.{Fine, NotUtf8, NotLatin}
 use Rattle.utf8.proofs.Reading.{fine-latin, fine-length, latin-head}
 use Rattle.manifests.specs.Manifests.{heldOf}
 use Rattle.manifests.specs.declared.Held.{Held}
-use Rattle.manifests.specs.declared.Held.the-variants.{Today, LastGood, Neither}
 use Rattle.pens.specs.Pen.{addressIn, stopIn, budgetIn, givenIn, settings, allRegisters, pokings, preparing, made, matching}
-use Rattle.pens.specs.Pen.{Penned, reported, judgedCheck, nameCheck, firstCheck, penNamed, penOf}
+use Rattle.pens.specs.Pen.{Penned, reported, nameCheck, firstCheck, penCheck, penNamed, penOf}
 use Rattle.pens.specs.Pen as Pen
-use Rattle.pens.proofs.Checks.{none-of, numberOf, never, not-utf8-fine, not-latin-fine}
+use Rattle.pens.proofs.Checks.{name-fits, none-of, registers, never, not-utf8-fine, not-latin-fine}
 use Rattle.exact.specs.Demand3.{Fits}
 use Rattle.exact.proofs.Counts.{journal}
 use Rattle.exact.proofs.Played.{at, playing, AptCalls}
@@ -151,28 +149,14 @@ given-within : (setup : List ℕ) → Within 16 setup → (i : ℕ) → word (gi
 given-within setup f i = subst (λ (x : ℕ). x < 2 ^ 16) (sym (getD-drop 3 setup i 0)) (f .at (3 + i))
 
 -- ---- what a number 0 tells
-fits-by : (at n ram : ℕ) (t : Bool) → leb (at + (n + 1)) ram ≡ t → _≡_ {A = ℕ} (cond t 0 82) 0 → at + (n + 1) ≤ ram
-fits-by at n ram true e z = leb-true (at + (n + 1)) ram e
-fits-by at n ram false e z = absurd (omega (arith, z))
-
-name-fits : (at ram : ℕ) (h : Held) (n : ℕ) → nameCheck h (Fine n) at ram ≡ 0 → at + (n + 1) ≤ ram
-unfolding nameCheck judgedCheck
-name-fits at ram (Today a e) n z = fits-by at n ram (leb (at + (n + 1)) ram) refl z
-name-fits at ram (LastGood a e) n z = fits-by at n ram (leb (at + (n + 1)) ram) refl z
-name-fits at ram Neither n z = absurd (omega (arith, z))
-
-registers : (t : Bool) → _≡_ {A = ℕ} (cond t 0 6) 0 → t ≡ true
-registers true e = refl
-registers false e = absurd (omega (arith, e))
-
 module _ (h : Held) (name setup : List ℕ) (w : W) where
   -- what the code would answer, by the number of the checks
   abbrev answer : ℕ → Penned
   answer n = Pen.unlessRefused n h w (reported h (matching setup (made (preparing setup name) w)))
 
-  pub number-zero : penNamed h name setup w .number ≡ 0 → numberOf h name setup w (judgedOf name) ≡ 0
+  pub number-zero : penNamed h name setup w .number ≡ 0 → penCheck h (judgedOf name) setup w ≡ 0
   unfolding penNamed
-  number-zero z = go (numberOf h name setup w (judgedOf name)) z
+  number-zero z = go (penCheck h (judgedOf name) setup w) z
     where
       go : (k : ℕ) → answer k .number ≡ 0 → k ≡ 0
       go zero e = refl
@@ -180,18 +164,18 @@ module _ (h : Held) (name setup : List ℕ) (w : W) where
 
   pub unmoved : (penNamed h name setup w .number ≡ 0 → ⊥) → penNamed h name setup w .world ≡ w
   unfolding penNamed
-  unmoved z = go (numberOf h name setup w (judgedOf name)) z
+  unmoved z = go (penCheck h (judgedOf name) setup w) z
     where
       go : (k : ℕ) → (answer k .number ≡ 0 → ⊥) → answer k .world ≡ w
       go zero f = absurd (f refl)
       go (suc k) f = refl
 
-  pub check-zero : numberOf h name setup w (judgedOf name) ≡ 0 → checkOf w ≡ 0
+  pub check-zero : penCheck h (judgedOf name) setup w ≡ 0 → checkOf w ≡ 0
   check-zero z =
       let a = none-of (firstCheck setup w) (nameCheck h (judgedOf name) (addressIn setup) (length (w .box .ram))) z in
       none-of (checkOf w) (cond (allRegisters (givenIn setup)) 0 6) (a .0) .0
 
-  fine-go : (n : ℕ) → judgedOf name ≡ Fine n → Within 16 setup → numberOf h name setup w (judgedOf name) ≡ 0
+  fine-go : (n : ℕ) → judgedOf name ≡ Fine n → Within 16 setup → penCheck h (judgedOf name) setup w ≡ 0
       → AllAcceptable (length (w .box .ram)) (preparing setup name)
   fine-go n e f z =
       let ram = length (w .box .ram) in
@@ -202,13 +186,13 @@ module _ (h : Held) (name setup : List ℕ) (w : W) where
       (pokings-go ram (addressIn setup) (latinOf name) (fine-latin name n e) (omega (arith, r, fine-length name n e)))
       (settings-go ram (givenIn setup) (given-within setup f) (registers (allRegisters (givenIn setup)) (b .1)))
 
-  judged-go : (j : Judged) → judgedOf name ≡ j → Within 16 setup → numberOf h name setup w (judgedOf name) ≡ 0
+  judged-go : (j : Judged) → judgedOf name ≡ j → Within 16 setup → penCheck h (judgedOf name) setup w ≡ 0
       → AllAcceptable (length (w .box .ram)) (preparing setup name)
   judged-go (Fine n) e f z = fine-go n e f z
   judged-go NotUtf8 e f z = absurd (never h name setup w NotUtf8 e not-utf8-fine z)
   judged-go NotLatin e f z = absurd (never h name setup w NotLatin e not-latin-fine z)
 
-  pub pen-go : Within 16 setup → Typed (w .box .cpu) (w .box .ram) → numberOf h name setup w (judgedOf name) ≡ 0 → AllGo (preparing setup name) w
+  pub pen-go : Within 16 setup → Typed (w .box .cpu) (w .box .ram) → penCheck h (judgedOf name) setup w ≡ 0 → AllGo (preparing setup name) w
   pen-go f y z =
       all-go (length (w .box .ram)) (preparing setup name) w (judged-go (judgedOf name) refl f z) refl (checked w y (check-zero z))
 
@@ -217,12 +201,12 @@ known : (a : ℕ) → listCheck (entry a 1 0 ∷ []) ≡ 0
 unfolding allKnown
 known a = refl
 
--- an ending that an accepted run has
+-- an ending that an accepted run has whose list has no watch
 abbrev Ended : Ending → Type 0
 Ended Refused = ⊥
 Ended Budget = Unit {0}
 Ended Halted = Unit {0}
-Ended Watch = Unit {0}
+Ended Watch = ⊥
 Ended Break = Unit {0}
 
 abbrev Ends : Stop → Type 0
@@ -232,29 +216,40 @@ spent-ends : (w : W) (x : Next Cpu) → Ends (spent w x)
 spent-ends w (refuses n) = tt
 spent-ends w (gives e) = tt
 
-caught-ends : (m : Met) (w : W) (x : Next Cpu) → Ends (caught m w x)
-caught-ends m w (refuses n) = tt
-caught-ends m w (gives e) = tt
+-- a list of one break
+module _ (a : ℕ) where
+  abbrev stop : List Entry
+  stop = entry a 1 0 ∷ []
 
-turn-ends : (on : W → Stop) → ((w : W) → Ends (on w)) → (first : Bool) (l : List Entry) (w : W) (x : Next Cpu) → Ends (turn on first l w x)
-turn-ends on f first l w (refuses n) = tt
-turn-ends on f first l w (gives e) =
-    let v = after machine journal w e in
-    picked Ends (not first && anyOf (meets (reached w)) l) tt
-    (picked Ends (anyOf (meets (stored e)) l) (caught-ends (stored e) v (nextOf step (v .box))) (f v))
+  no-watch : (e : Effect Cpu) → anyOf (meets (stored e)) stop ≡ false
+  unfolding anyOf
+  no-watch e = refl
 
-goes-ends : (n : ℕ) (first : Bool) (l : List Entry) (w : W) → Ends (goes n first l w)
-goes-ends zero first l w = spent-ends w (nextOf step (w .box))
-goes-ends (suc n) first l w = turn-ends (goes n false l) (goes-ends n false l) first l w (nextOf step (w .box))
+  turn-ends : (on : W → Stop) → ((w : W) → Ends (on w)) → (first : Bool) (w : W) (x : Next Cpu) → Ends (turn on first stop w x)
+  turn-ends on f first w (refuses n) = tt
+  turn-ends on f first w (gives e) =
+      let v = after machine journal w e in
+      picked Ends (not first && anyOf (meets (reached w)) stop) tt
+      (subst (λ (t : Bool). Ends (cond t (caught (stored e) v (nextOf step (v .box))) (on v))) (sym (no-watch e)) (f v))
 
-pub run-goes : (setup : List ℕ) (w : W) → Passing w → (matching setup w .number ≡ 0) × (matching setup w .ending ≡ Refused → ⊥)
+  goes-ends : (n : ℕ) (first : Bool) (w : W) → Ends (goes n first stop w)
+  goes-ends zero first w = spent-ends w (nextOf step (w .box))
+  goes-ends (suc n) first w = turn-ends (goes n false stop) (goes-ends n false) first w (nextOf step (w .box))
+
+-- where the checks pass it is not refused
+pub run-told : (setup : List ℕ) (w : W) → Passing w → let l = entry (stopIn setup) 1 0 ∷ [] in matching setup w ≡ told (goes (budgetIn setup) true l w) l
 unfolding watchedOf
-run-goes setup w p =
+run-told setup w p =
     let l = entry (stopIn setup) 1 0 ∷ [] in
-    let n = budgetIn setup in
-    let z : orElse (checkOf w) (listCheck l) ≡ 0 = ap (λ (c : ℕ). orElse c (listCheck l)) (passes w p) ∙ known (stopIn setup) in
-    let a : matching setup w ≡ told (goes n true l w) l = ap (λ (c : ℕ). unlessRefused c w l (told (goes n true l w) l)) z in
-    (ap (λ (x : Watched). x .number) a, λ q. subst Ended (sym (ap (λ (x : Watched). x .ending) a) ∙ q) (goes-ends n true l w))
+    ap (λ (c : ℕ). unlessRefused c w l (told (goes (budgetIn setup) true l w) l)) (ap (λ (c : ℕ). orElse c (listCheck l)) (passes w p) ∙ known (stopIn setup))
+
+pub run-goes : (setup : List ℕ) (w : W) → Passing w
+    → (matching setup w .number ≡ 0) × (matching setup w .ending ≡ Refused → ⊥) × (matching setup w .ending ≡ Watch → ⊥)
+run-goes setup w p =
+    let a = run-told setup w p in
+    let e = goes-ends (stopIn setup) (budgetIn setup) true w in
+    let c = sym (ap (λ (x : Watched). x .ending) a) in
+    (ap (λ (x : Watched). x .number) a, λ q. subst Ended (c ∙ q) e, λ q. subst Ended (c ∙ q) e)
 
 -- ---- a pen by its line
 pub accepted-calls : (line today last setup : List ℕ) (w : W) → Typed (w .box .cpu) (w .box .ram) → Within 16 setup
@@ -264,7 +259,7 @@ accepted-calls line today last setup w y f z =
     let name = named line today last in
     let g = pen-go (heldOf line today last) name setup w f y (number-zero (heldOf line today last) name setup w z) in
     let r = run-goes setup (made (preparing setup name) w) (g .passing) in
-    record { given = g .each; run = r .0; ends = r .1 }
+    record { given = g .each; run = r .0; ends = r .1; unwatched = r .2 }
 
 pub refused-pen : (line today last setup : List ℕ) (w : W) → (penOf line today last setup w .number ≡ 0 → ⊥) → penOf line today last setup w .world ≡ w
 unfolding penOf

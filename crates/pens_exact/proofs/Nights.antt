@@ -11,7 +11,7 @@ use Rattle.calls.specs.Inputs.{Input, step, machine}
 use Rattle.calls.specs.Calls.{W, checkOf, worldOf, started}
 use Rattle.calls.specs.declared.state.Machine.{Machine as MachineT}
 use Rattle.entries.specs.Entries.{entry}
-use Rattle.manifests.specs.Manifests.{heldOf}
+use Rattle.manifests.specs.Manifests.{heldOf, lines as linesIn}
 use Rattle.manifests.specs.declared.Held.{Held}
 use Rattle.pens.specs.Pen.{Penned, stopIn, budgetIn, preparing, made, matching, penNamed, penOf, pensOf, afterPens}
 use Rattle.pens.specs.Code.{reportAs}
@@ -24,20 +24,20 @@ use Rattle.exact.proofs.Stands.{stands}
 use Rattle.exact.proofs.Seen.{calls, all-apt, played}
 use Rattle.pens_exact.specs.Cut.{Typed}
 use Rattle.pens_exact.specs.Nights.{Deed, done, pen, machineAfter, ramAfter, wordsAfter, Kept, Chain, last, named}
-use Rattle.pens_exact.specs.Nights.{leftByEach, leftByPen, leftByDeed, leftBy, Demand3Pens, Line, deedsOf, linesOf, reportsOf}
+use Rattle.pens_exact.specs.Nights.{leftByEach, leftByPen, leftByDeed, leftBy, Demand3Pens, Line, deedsOf, linesOf, reportsOf, reportFrom, answersOf, Demand3List}
 use Rattle.pens_exact.proofs.Accepted.{number-zero, pen-go, run-goes, refused-pen}
 
 -- ---- calls after calls
-play-on : (n : ℕ) (cs ds : List (Call Input)) (p : P) → playing n (cs ++ ds) p ≡ playing n ds (playing n cs p)
+pub play-on : (n : ℕ) (cs ds : List (Call Input)) (p : P) → playing n (cs ++ ds) p ≡ playing n ds (playing n cs p)
 play-on n [] ds p = refl
 play-on n (c ∷ cs) ds p = play-on n cs ds (one machine journal checkOf (upTo n) c p)
 
-apt-on : (cs ds : List (Call Input)) → AptCalls cs → AptCalls ds → AptCalls (cs ++ ds)
+pub apt-on : (cs ds : List (Call Input)) → AptCalls cs → AptCalls ds → AptCalls (cs ++ ds)
 apt-on [] ds f g = g
 apt-on (c ∷ cs) ds f g = (f .0, apt-on cs ds (f .1) g)
 
 -- ---- an accepted pen
-typed : (b : Box Cpu) → GoodBox b → Typed (b .cpu) (b .ram)
+pub typed : (b : Box Cpu) → GoodBox b → Typed (b .cpu) (b .ram)
 typed b g =
     record {
       regs = g .cpu .regs;
@@ -48,10 +48,10 @@ typed b g =
     }
 
 -- calls that the rules play from p to q
-record Plays (n : ℕ) (p q : P) : Type 0 where
-  by : List (Call Input)
-  apt : AptCalls by
-  leads : playing n by p ≡ q
+pub record Plays (n : ℕ) (p q : P) : Type 0 where
+  pub by : List (Call Input)
+  pub apt : AptCalls by
+  pub leads : playing n by p ≡ q
 
 module _ (h : Held) (name setup : List ℕ) (w : W) where
   -- the machine as the pen's run finds it
@@ -79,10 +79,10 @@ module _ (h : Held) (name setup : List ℕ) (w : W) where
 
 -- ---- deed after deed
 module _ (m₀ ws₀ : List ℕ) (ok : Allowed m₀ ws₀) where
-  abbrev Reaches : P → Type 0
+  abbrev pub Reaches : P → Type 0
   Reaches p = Plays (slots ws₀) (starting m₀ ws₀) p
 
-  further : {p q : P} → Reaches p → Plays (slots ws₀) p q → Reaches q
+  pub further : {p q : P} → Reaches p → Plays (slots ws₀) p q → Reaches q
   further {p} {q} r s =
       record {
         by = r .by ++ s .by;
@@ -90,10 +90,10 @@ module _ (m₀ ws₀ : List ℕ) (ok : Allowed m₀ ws₀) where
         leads = play-on (slots ws₀) (r .by) (s .by) (starting m₀ ws₀) ∙ ap (playing (slots ws₀) (s .by)) (r .leads) ∙ s .leads;
       }
 
-  good : (w : W) (l : Left Input) → Reaches (at w l) → GoodBox (w .box)
+  pub good : (w : W) (l : Left Input) → Reaches (at w l) → GoodBox (w .box)
   good w l r = subst (λ (p : P). GoodBox (p .world .box)) (r .leads) (reached m₀ ws₀ (r .by) ok (r .apt) .good)
 
-  pen-on : (line today old setup : List ℕ) (w v : W) (number steps : ℕ) (l : Left Input) → Within 16 setup → Reaches (at w l)
+  pub pen-on : (line today old setup : List ℕ) (w v : W) (number steps : ℕ) (l : Left Input) → Within 16 setup → Reaches (at w l)
       → penOf line today old setup w .number ≡ number → penOf line today old setup w .steps ≡ steps → penOf line today old setup w .world ≡ v
       → Reaches (at v (leftByPen (slots ws₀) setup (named line today old) number steps l))
   unfolding penOf
@@ -145,3 +145,29 @@ module _ (today old setup : List ℕ) where
       let a = reportAs (p .report) (p .ram) (p .words) in
       ap (λ (t : List Penned). a ∷ t) (told-pens (p .report .machine) (p .ram) (p .words) ps (ch .1))
       ∙ ap (λ (b : Penned). b ∷ pensOf (linesOf ps) today old setup (b .world)) (sym (ch .0 .1))
+
+  -- each line's answer keeps the promise of a pen
+  answers-chain : (ls : List (List ℕ)) → Within 16 setup → (m : MachineT) (ram ws : List ℕ)
+      → Chain m ram ws (deedsOf today old setup (answersOf today old setup ls (worldOf m ram ws)))
+  unfolding answersOf
+  answers-chain [] f m ram ws = tt
+  answers-chain (l ∷ ls) f m ram ws =
+      let a = penOf l today old setup (worldOf m ram ws) in
+      ((f, refl), answers-chain ls f (reportFrom a .machine) (a .world .box .ram) (a .world .journal .words))
+
+  lines-are : (ls : List (List ℕ)) (w : W) → linesOf (answersOf today old setup ls w) ≡ ls
+  unfolding answersOf
+  lines-are [] w = refl
+  lines-are (l ∷ ls) w = ap (λ (t : List (List ℕ)). l ∷ t) (lines-are ls (penOf l today old setup w .world))
+
+  pub demand3-list : (m ws lines : List ℕ) → Allowed m ws → Within 16 setup → Demand3List m ws lines today old setup
+  demand3-list m ws lines ok f =
+      let ls = linesIn lines in
+      let ps = answersOf today old setup ls (worldOf started m ws) in
+      let c = answers-chain ls f started m ws in
+      record {
+        demand = demand3-pens m ws (deedsOf today old setup ps) ok c;
+        after =
+            after-pens started m ws ps c
+            ∙ ap (λ (t : List (List ℕ)). afterPens t today old setup (worldOf started m ws)) (lines-are ls (worldOf started m ws));
+      }

@@ -2,31 +2,17 @@
 use Prim.Native.Nat.{ℕ}
 use mathlib.Core.Path.{_≡_, _∙_, sym, ap}
 use mathlib.Core.List.{List}
-use Rattle.calls.specs.Calls.{W}
-use Rattle.calls.specs.declared.state.Machine.{Machine as MachineT}
 use Rattle.boundary.specs.Boundary.{Crossed}
-use Rattle.pens.specs.Pen.{Penned, penOf}
+use Rattle.pens.specs.Pen.{Penned}
 use Rattle.pens.specs.Code.{reportAs}
 use Rattle.pens.specs.declared.Report.{Report}
 use Rattle.pen_crossing.specs.Crossing.{CrossesPen}
+use Rattle.pens_exact.specs.Nights.{reportFrom}
 
--- a report, read back from the answer
-reportFrom : Penned → Report
-reportFrom a =
-    record {
-      number = a .number;
-      held = a .held;
-      r0 = a .r0;
-      steps = a .steps;
-      bus = a .bus;
-      ending = a .ending;
-      machine = record { cpu = a .world .box .cpu; next = a .world .journal .next; held = a .world .journal .held };
-    }
-
-pub single-pen : (line today last setup : List ℕ) (w : W) (r : Report) (ram ws : List ℕ) (r′ : Report) (ram′ ws′ : List ℕ)
-    → penOf line today last setup w ≡ reportAs r ram ws → penOf line today last setup w ≡ reportAs r′ ram′ ws′ → (r ≡ r′) × (ram ≡ ram′) × (ws ≡ ws′)
-unfolding reportFrom
-single-pen line today last setup w r ram ws r′ ram′ ws′ p q =
+-- of `pen` the answer is `penOf`, of `pen_named` it is `penNamed`
+pub single-pen : (a : Penned) (r : Report) (ram ws : List ℕ) (r′ : Report) (ram′ ws′ : List ℕ)
+    → a ≡ reportAs r ram ws → a ≡ reportAs r′ ram′ ws′ → (r ≡ r′) × (ram ≡ ram′) × (ws ≡ ws′)
+single-pen a r ram ws r′ ram′ ws′ p q =
     let e = sym p ∙ q in
     (ap reportFrom e, ap (λ (a : Penned). a .world .box .ram) e, ap (λ (a : Penned). a .world .journal .words) e)
 

@@ -1,2 +1,4 @@
 pub mod Cut
 pub mod Nights
+pub mod Fields
+pub mod Across

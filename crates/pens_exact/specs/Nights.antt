@@ -10,9 +10,9 @@ use Rattle.history.specs.Ring.{slots}
 use Rattle.calls.specs.Inputs.{Input, step, box, machine}
 use Rattle.calls.specs.Calls.{W, answerOf, worldOf, started}
 use Rattle.calls.specs.declared.state.Machine.{Machine}
-use Rattle.watching.specs.declared.Ending.the-variants.{Refused}
-use Rattle.manifests.specs.Manifests.{heldOf, nameOf}
-use Rattle.pens.specs.Pen.{Penned, budgetIn, preparing, made, matching, penOf}
+use Rattle.watching.specs.declared.Ending.the-variants.{Refused, Watch}
+use Rattle.manifests.specs.Manifests.{heldOf, nameOf, lines as linesIn}
+use Rattle.pens.specs.Pen.{Penned, budgetIn, preparing, made, matching, penOf, afterPens}
 use Rattle.pens.specs.Code.{reportAs}
 use Rattle.pens.specs.declared.Report.{Report}
 use Rattle.exact.specs.Demand3.{Made}
@@ -92,6 +92,19 @@ pub record Demand3Pens (m ws : List ℕ) (xs : List Deed) : Type 0 where
   pub refused : answerOf back (ended m ws xs) .number ≡ backNumber (left ws xs .held)
 
 -- ---- a list of pens
+-- a report, read back from the answer
+abbrev pub reportFrom : Penned → Report
+reportFrom a =
+    record {
+      number = a .number;
+      held = a .held;
+      r0 = a .r0;
+      steps = a .steps;
+      bus = a .bus;
+      ending = a .ending;
+      machine = record { cpu = a .world .box .cpu; next = a .world .journal .next; held = a .world .journal .held };
+    }
+
 -- a pen of a list: its line, what the code returned, and memory and journal afterwards
 pub record Line : Type 0 where
   pub line : List ℕ
@@ -111,6 +124,19 @@ linesOf ps = map (λ (p : Line). p .line) ps
 abbrev pub reportsOf : List Line → List Penned
 reportsOf ps = map (λ (p : Line). reportAs (p .report) (p .ram) (p .words)) ps
 
+-- what the rules answer to each line of a list is such a list
+unfoldable pub answersOf : List ℕ → List ℕ → List ℕ → List (List ℕ) → W → List Line
+answersOf today last setup [] w = []
+answersOf today last setup (l ∷ ls) w =
+    let a = penOf l today last setup w in
+    record { line = l; report = reportFrom a; ram = a .world .box .ram; words = a .world .journal .words } ∷ answersOf today last setup ls (a .world)
+
+-- demand 3 of a whole list from the start: of what is there after it, as `list` of the program promises it
+pub record Demand3List (m ws lines today last setup : List ℕ) : Type 0 where
+  pub demand : Demand3Pens m ws (deedsOf today last setup (answersOf today last setup (linesIn lines) (worldOf started m ws)))
+  pub after : ended m ws (deedsOf today last setup (answersOf today last setup (linesIn lines) (worldOf started m ws)))
+      ≡ afterPens (linesIn lines) today last setup (worldOf started m ws)
+
 -- ---- a pen's calls
 -- each call is accepted, handed what the one before it left
 abbrev pub AllAccepted : List (Call Input) → W → Type 0
@@ -121,4 +147,6 @@ AllAccepted (c ∷ cs) w = (answerOf c w .number ≡ 0) × AllAccepted cs (answe
 pub record Accepted (setup name : List ℕ) (w : W) : Type 0 where
   pub given : AllAccepted (preparing setup name) w
   pub run : matching setup (made (preparing setup name) w) .number ≡ 0
+  -- "until pc is a given address (as a Q-9 break), the machine halts or the budget ends": by no other cause
   pub ends : matching setup (made (preparing setup name) w) .ending ≡ Refused → ⊥
+  pub unwatched : matching setup (made (preparing setup name) w) .ending ≡ Watch → ⊥

@@ -3,26 +3,18 @@ use Rattle.pen_crossing.proofs.Results.{kept, rewritten}
 use borrow.Author.Needs.{needs}
 use Rattle.pen_crossing.proofs.answer.Statement.{statement}
 use Rattle.pen_crossing.proofs.answer.Tie as tie
-use Rattle.pen_crossing.proofs.answer.Reads as reads
-use Rattle.pen_crossing.proofs.answer.Lts as lts
-use Rattle.boundary.proofs.words.answer.Reads as answer-reads
-use Rattle.pen_crossing.proofs.said.Reads as said-reads
 
--- src/lib.rt:29:9
 said-requires : tie.Need-said-requires
 said-requires c κs = search needs
 
--- src/lib.rt:31:9
 returns : tie.Need-returns
 returns c ram ws =
     let k = c .before in let a = k .before .before .args in
     kept (now (a .state)) (a .r) ram ws _ (k .said .ensures) (c .if1 .taken)
 
--- src/lib.rt:37:9
 answer-requires : tie.Need-answer-requires
 answer-requires c κs = search needs
 
--- src/lib.rt:23:1
 returns-2 : tie.Need-returns-2
 returns-2 c ram ws =
     let i = c .before .before in let k = i .before in let a = k .before .before .args in

@@ -6,30 +6,19 @@ use Rattle.pens.proofs.Checks.{first-of}
 use borrow.Author.Needs.{needs}
 use Rattle.pens.proofs.refusal.Statement.{statement}
 use Rattle.pens.proofs.refusal.Tie as tie
-use Rattle.pens.proofs.refusal.Reads as reads
-use Rattle.pens.proofs.refusal.Lts as lts
-use Rattle.calls.proofs.checks.check.Reads as check-reads
-use Rattle.pens.proofs.checking.or_else.Reads as or-else-reads
-use Rattle.pens.proofs.checking.register_check.Reads as register-check-reads
-use Rattle.pens.proofs.giving.are_registers.Reads as are-registers-reads
 
--- src/lib.rt:88:40
 are-registers-requires : tie.Need-are-registers-requires
 are-registers-requires c κs = search needs
 
--- src/lib.rt:88:9
 register-check-requires : tie.Need-register-check-requires
 register-check-requires c κs = search needs
 
--- src/lib.rt:89:23
 check-requires : tie.Need-check-requires
 check-requires c κs = search needs
 
--- src/lib.rt:89:5
 or-else-requires : tie.Need-or-else-requires
 or-else-requires c κs = search needs
 
--- src/lib.rt:85:1
 returns : tie.Need-returns
 returns c =
     let k = c .before in let x = k .before in let r = x .before in let a = r .before .before .before .before .args in

@@ -1,45 +1,33 @@
 use mathlib.Core.Path.{sym, _∙_, ap}
 use mathlib.Core.Bool.{Bool, cond}
-use Prim.Native.Nat.{ℕ}
 use Rattle.pens.proofs.Checks.{judged-check, not-utf8, not-latin}
 use borrow.Author.Needs.{needs}
 use Rattle.pens.proofs.checking.judged_check.Statement.{statement}
 use Rattle.pens.proofs.checking.judged_check.Tie as tie
-use Rattle.pens.proofs.checking.judged_check.Reads as reads
-use Rattle.pens.proofs.checking.judged_check.Lts as lts
-use Rattle.pens.proofs.checking.is_room.Reads as is-room-reads
 
--- src/checking.rt:33:28
 enum-told : tie.Need-enum-told
 enum-told c = search needs
 
--- src/checking.rt:34:29
 enum-told-2 : tie.Need-enum-told-2
 enum-told-2 c = search needs
 
--- src/checking.rt:35:22
 enum-known-j : tie.Need-enum-known-j
 enum-known-j c = search needs
 
--- src/checking.rt:35:31
 is-room-requires : tie.Need-is-room-requires
 is-room-requires c κs = search needs
 
--- src/checking.rt:29:1
 returns : tie.Need-returns
 returns c = let a = c .before .before .args in not-utf8 (a .at) (a .ram) (a .j) (c .enum-told .given .1)
 
--- src/checking.rt:29:1
 returns-2 : tie.Need-returns-2
 returns-2 c = let a = c .before .before .args in not-latin (a .at) (a .ram) (a .j) (c .enum-told2 .given .1)
 
--- src/checking.rt:29:1
 returns-3 : tie.Need-returns-3
 returns-3 c =
     let k = c .before in let g = k .before .before .j .given in let a = k .before .before .before .before .args in
     ap (λ (t : Bool). cond t 0 82) (sym (sym (k .is-room .ensures) ∙ c .if1 .taken)) ∙ judged-check (a .j) (g .0 .0) (a .at) (a .ram) (g .1)
 
--- src/checking.rt:29:1
 returns-4 : tie.Need-returns-4
 returns-4 c =
     let k = c .before in let g = k .before .before .j .given in let a = k .before .before .before .before .args in

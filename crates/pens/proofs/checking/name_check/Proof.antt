@@ -3,39 +3,28 @@ use Rattle.pens.proofs.Checks.{name-today, name-last, name-none}
 use borrow.Author.Needs.{needs}
 use Rattle.pens.proofs.checking.name_check.Statement.{statement}
 use Rattle.pens.proofs.checking.name_check.Tie as tie
-use Rattle.pens.proofs.checking.name_check.Reads as reads
-use Rattle.pens.proofs.checking.name_check.Lts as lts
-use Rattle.pens.proofs.checking.judged_check.Reads as judged-check-reads
 
--- src/checking.rt:44:43
 enum-told : tie.Need-enum-told
 enum-told c = search needs
 
--- src/checking.rt:44:43
 judged-check-requires : tie.Need-judged-check-requires
 judged-check-requires c κs = search needs
 
--- src/checking.rt:45:46
 enum-told-2 : tie.Need-enum-told-2
 enum-told-2 c = search needs
 
--- src/checking.rt:45:46
 judged-check-requires-2 : tie.Need-judged-check-requires-2
 judged-check-requires-2 c κs = search needs
 
--- src/checking.rt:46:26
 enum-told-3 : tie.Need-enum-told-3
 enum-told-3 c = search needs
 
--- src/checking.rt:40:1
 returns : tie.Need-returns
 returns c = let a = c .before .before .before .args in c .judged-check .ensures ∙ name-today (a .at) (a .ram) (a .held) (a .j) _ _ (c .before .enum-told .given .1)
 
--- src/checking.rt:40:1
 returns-2 : tie.Need-returns-2
 returns-2 c = let a = c .before .before .before .args in c .judged-check2 .ensures ∙ name-last (a .at) (a .ram) (a .held) (a .j) _ _ (c .before .enum-told2 .given .1)
 
--- src/checking.rt:40:1
 returns-3 : tie.Need-returns-3
 returns-3 c = let a = c .before .before .args in name-none (a .at) (a .ram) (a .held) (a .j) (c .enum-told3 .given .1)
 

@@ -2,14 +2,10 @@ use Rattle.pens.proofs.Checks.{or-else-some}
 use borrow.Author.Needs.{needs}
 use Rattle.pens.proofs.checking.or_else.Statement.{statement}
 use Rattle.pens.proofs.checking.or_else.Tie as tie
-use Rattle.pens.proofs.checking.or_else.Reads as reads
-use Rattle.pens.proofs.checking.or_else.Lts as lts
 
--- src/checking.rt:11:1
 returns : tie.Need-returns
 returns c = search needs
 
--- src/checking.rt:11:1
 returns-2 : tie.Need-returns-2
 returns-2 c = or-else-some (c .before .args .a) (c .before .args .b) (c .if1 .left)
 

@@ -8,9 +8,6 @@ use Rattle.pens.specs.Pen.{allRegisters}
 use Rattle.pens.proofs.Given.{all-not, all-on, all-end}
 use Rattle.pens.proofs.giving.are_registers.Statement.{statement}
 use Rattle.pens.proofs.giving.are_registers.Tie as tie
-use Rattle.pens.proofs.giving.are_registers.Reads as reads
-use Rattle.pens.proofs.giving.are_registers.Lts as lts
-use Rattle.pens.proofs.giving.before.Reads as before-reads
 
 abbrev Inv-loop : tie.InvT-loop
 Inv-loop setup last i₀ i = allRegisters (drop i setup) ≡ allRegisters (drop 3 setup)
@@ -18,43 +15,34 @@ Inv-loop setup last i₀ i = allRegisters (drop i setup) ≡ allRegisters (drop 
 abbrev μ-loop : tie.MeasureT-loop
 μ-loop setup last i₀ i = last - i
 
--- src/giving.rt:46:9
 before-requires : tie.Need-before-requires Inv-loop μ-loop
 before-requires c κs = search needs
 
--- src/giving.rt:48:5
 loop-holds : tie.Need-loop-holds Inv-loop μ-loop
 loop-holds c = search needs
 
--- src/giving.rt:49:17
 mul-if1 : tie.Need-mul-if1 Inv-loop μ-loop
 mul-if1 c = search needs
 
--- src/giving.rt:49:17
 shared-slice-read-if1 : tie.Need-shared-slice-read-if1 Inv-loop μ-loop
 shared-slice-read-if1 c = search needs
 
--- src/giving.rt:50:13
 returns : tie.Need-returns Inv-loop μ-loop
 returns c =
     let l = c .before .before .before in let a = l .before .before .before in
     sym (all-not (now (a .args .setup)) (l .loop .i) (omega arith) (c .if1 .taken)) ∙ l .loop .inv
 
--- src/giving.rt:52:9
 add-i : tie.Need-add-i Inv-loop μ-loop
 add-i c = search needs
 
--- src/giving.rt:48:5
 loop-less : tie.Need-loop-less Inv-loop μ-loop
 loop-less c = search needs
 
--- src/giving.rt:48:5
 loop-again : tie.Need-loop-again Inv-loop μ-loop
 loop-again c =
     let l = c .before .before .before in let a = l .before .before .before in
     sym (all-on (now (a .args .setup)) (l .loop .i) (omega arith) (omega (arith, c .if1 .left))) ∙ l .loop .inv
 
--- src/giving.rt:43:1
 returns-2 : tie.Need-returns-2 Inv-loop μ-loop
 returns-2 c =
     let l = c .before in let a = l .before .before .before in

@@ -12,11 +12,6 @@ use Rattle.pens.specs.Pen.{allRegisters, settings, made}
 use Rattle.pens.proofs.Given.{all-here, settings-turn, settings-done}
 use Rattle.pens.proofs.giving.give.Statement.{statement}
 use Rattle.pens.proofs.giving.give.Tie as tie
-use Rattle.pens.proofs.giving.give.Reads as reads
-use Rattle.pens.proofs.giving.give.Lts as lts
-use Rattle.pens.proofs.giving.before.Reads as before-reads
-use Rattle.pens.proofs.giving.make.Reads as make-reads
-use Rattle.pens.proofs.giving.numbered.Reads as numbered-reads
 
 abbrev Inv-loop : tie.InvT-loop
 Inv-loop ram₀ journal₀ setup last after₀ i₀ ram journal after i =
@@ -26,51 +21,39 @@ Inv-loop ram₀ journal₀ setup last after₀ i₀ ram journal after i =
 abbrev μ-loop : tie.MeasureT-loop
 μ-loop ram₀ journal₀ setup last after₀ i₀ ram journal after i = last - i
 
--- src/giving.rt:68:9
 before-requires : tie.Need-before-requires Inv-loop μ-loop
 before-requires c κs = search needs
 
--- src/giving.rt:71:5
 loop-holds : tie.Need-loop-holds Inv-loop μ-loop
 loop-holds c = (refl, refl, c .before .before .before .before .pre, refl)
 
--- src/giving.rt:72:31
 mul-numbered : tie.Need-mul-numbered Inv-loop μ-loop
 mul-numbered c = search needs
 
--- src/giving.rt:72:31
 shared-slice-read-numbered : tie.Need-shared-slice-read-numbered Inv-loop μ-loop
 shared-slice-read-numbered c = search needs
 
--- src/giving.rt:72:47
 add-numbered : tie.Need-add-numbered Inv-loop μ-loop
 add-numbered c = search needs
 
--- src/giving.rt:72:41
 mul-numbered-2 : tie.Need-mul-numbered-2 Inv-loop μ-loop
 mul-numbered-2 c = search needs
 
--- src/giving.rt:72:41
 shared-slice-read-numbered-2 : tie.Need-shared-slice-read-numbered-2 Inv-loop μ-loop
 shared-slice-read-numbered-2 c = search needs
 
--- src/giving.rt:72:22
 numbered-requires : tie.Need-numbered-requires Inv-loop μ-loop
 numbered-requires c κs = search needs
 
--- src/giving.rt:72:9
 make-requires : tie.Need-make-requires Inv-loop μ-loop
 make-requires c κs = search needs
 
--- src/giving.rt:73:9
 add-i : tie.Need-add-i Inv-loop μ-loop
 add-i c = search needs
 
--- src/giving.rt:71:5
 loop-less : tie.Need-loop-less Inv-loop μ-loop
 loop-less c = search needs
 
--- src/giving.rt:71:5
 loop-again : tie.Need-loop-again Inv-loop μ-loop
 loop-again c =
     let l = c .before .before .before .before .before .before .before .before .before .before .before in
@@ -83,15 +66,12 @@ loop-again c =
     let h = all-here (now (a .setup)) (l .loop .i) n (l .loop .inv .2) in
     (search needs, search needs, h .1, settings-turn (now (a .setup)) (l .loop .i) _ _ n (l .loop .inv .2) q ∙ l .loop .inv .3)
 
--- src/giving.rt:64:1
 same-length : tie.Need-same-length Inv-loop μ-loop
 same-length c = search needs
 
--- src/giving.rt:64:1
 same-length-2 : tie.Need-same-length-2 Inv-loop μ-loop
 same-length-2 c = search needs
 
--- src/giving.rt:64:1
 returns : tie.Need-returns Inv-loop μ-loop
 returns c =
     let l = c .before in let a = l .before .before .before .before .before .args in

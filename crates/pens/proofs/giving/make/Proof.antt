@@ -7,23 +7,16 @@ use Rattle.pens.proofs.Given.{world-said}
 use borrow.Author.Needs.{needs}
 use Rattle.pens.proofs.giving.make.Statement.{statement}
 use Rattle.pens.proofs.giving.make.Tie as tie
-use Rattle.pens.proofs.giving.make.Reads as reads
-use Rattle.pens.proofs.giving.make.Lts as lts
-use Rattle.machine.proofs.answer.Reads as answer-reads
 
--- src/giving.rt:27:9
 answer-requires : tie.Need-answer-requires
 answer-requires c κs = search needs
 
--- src/giving.rt:24:1
 same-length : tie.Need-same-length
 same-length c = search needs
 
--- src/giving.rt:24:1
 same-length-2 : tie.Need-same-length-2
 same-length-2 c = search needs
 
--- src/giving.rt:24:1
 returns : tie.Need-returns
 returns c =
     let k = c .before .before .before .before .before .answer in

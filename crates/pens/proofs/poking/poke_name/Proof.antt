@@ -1,7 +1,7 @@
 use borrow.Author.Needs.{needs}
 use denote.Ref.{now}
 use native.Mathlib.Omega.{arith}
-use mathlib.Core.Path.{_≡_, refl, sym, _∙_}
+use mathlib.Core.Path.{_≡_, refl, _∙_}
 use mathlib.Core.List.{[], _∷_, _++_}
 use Prim.Native.Nat.{_+_, _≤_}
 use lib.ListN.{length}
@@ -11,10 +11,6 @@ use Rattle.pens.specs.Pen.{pokings, made}
 use Rattle.pens.proofs.Lettered.{Left, begun, turn, closed}
 use Rattle.pens.proofs.poking.poke_name.Statement.{statement}
 use Rattle.pens.proofs.poking.poke_name.Tie as tie
-use Rattle.pens.proofs.poking.poke_name.Reads as reads
-use Rattle.pens.proofs.poking.poke_name.Lts as lts
-use Rattle.pens.proofs.giving.make.Reads as make-reads
-use Rattle.pens.proofs.poking.single_at.Reads as single-at-reads
 
 abbrev Inv-loop : tie.InvT-loop
 Inv-loop ram₀ journal₀ name n at after₀ a₀ i₀ left₀ ram journal after a i left =
@@ -24,33 +20,26 @@ Inv-loop ram₀ journal₀ name n at after₀ a₀ i₀ left₀ ram journal afte
 abbrev μ-loop : tie.MeasureT-loop
 μ-loop ram₀ journal₀ name n at after₀ a₀ i₀ left₀ ram journal after a i left = left
 
--- src/poking.rt:54:5
 loop-holds : tie.Need-loop-holds Inv-loop μ-loop
 loop-holds c =
     let k = c .before .before .before in
     (refl, refl, k .pre .1, begun (now (k .args .name)) (k .args .n) (k .args .at) _ (k .pre .0))
 
--- src/poking.rt:55:13
 single-at-requires : tie.Need-single-at-requires Inv-loop μ-loop
 single-at-requires c κs = search needs
 
--- src/poking.rt:56:9
 make-requires : tie.Need-make-requires Inv-loop μ-loop
 make-requires c κs = search needs
 
--- src/poking.rt:57:13
 add-a : tie.Need-add-a Inv-loop μ-loop
 add-a c = search needs
 
--- src/poking.rt:59:16
 sub-left : tie.Need-sub-left Inv-loop μ-loop
 sub-left c = search needs
 
--- src/poking.rt:54:5
 loop-less : tie.Need-loop-less Inv-loop μ-loop
 loop-less c = search needs
 
--- src/poking.rt:54:5
 loop-again : tie.Need-loop-again Inv-loop μ-loop
 loop-again c =
     let k = c .before .before .before .before in let g = k .before .before .before in let l = g .before .before in let a = l .before .before .before .before in (
@@ -60,19 +49,15 @@ loop-again c =
       turn (now (a .args .name)) (l .loop .i) (l .loop .left) (l .loop .a) _ _ (l .loop .inv .3) (omega arith) _ _ (g .single-at .ensures) _ (k .make .ensures),
     )
 
--- src/poking.rt:61:5
 make-requires-2 : tie.Need-make-requires-2 Inv-loop μ-loop
 make-requires-2 c κs = search needs
 
--- src/poking.rt:38:1
 same-length : tie.Need-same-length Inv-loop μ-loop
 same-length c = search needs
 
--- src/poking.rt:38:1
 same-length-2 : tie.Need-same-length-2 Inv-loop μ-loop
 same-length-2 c = search needs
 
--- src/poking.rt:38:1
 returns : tie.Need-returns Inv-loop μ-loop
 returns c =
     let k = c .before .before .before .before in let l = k .before .before .before .before in let a = l .before .before .before .before in

@@ -6,40 +6,30 @@ use Rattle.pens.proofs.Lettered.{singles-letter, singles-bad}
 use borrow.Author.Needs.{needs}
 use Rattle.pens.proofs.poking.single_at.Statement.{statement}
 use Rattle.pens.proofs.poking.single_at.Tie as tie
-use Rattle.pens.proofs.poking.single_at.Reads as reads
-use Rattle.pens.proofs.poking.single_at.Lts as lts
-use Rattle.utf8.proofs.letter_at.Reads as letter-at-reads
 
--- src/poking.rt:28:11
 letter-at-requires : tie.Need-letter-at-requires
 letter-at-requires c κs = search needs
 
--- src/poking.rt:29:22
 enum-known-point : tie.Need-enum-known-point
 enum-known-point c = search needs
 
--- src/poking.rt:30:19
 cast-t8 : tie.Need-cast-t8
 cast-t8 c = search needs
 
--- src/poking.rt:31:19
 add-t9 : tie.Need-add-t9
 add-t9 c =
     let g = c .before .point .given in let l = c .before .before .before in let a = l .before .before .args in
     let h = stays-within (now (a .name)) (a .i) (g .0 .0) (g .0 .1 .0) (sym (l .letter-at .ensures) ∙ g .1) in
     omega (arith, h)
 
--- src/poking.rt:33:24
 enum-told : tie.Need-enum-told
 enum-told c = search needs
 
--- src/poking.rt:24:1
 returns : tie.Need-returns
 returns c =
     let g = c .before .point .given in let l = c .before .before .before in let a = l .before .before .args in
     singles-letter (now (a .name)) (a .i) (g .0 .0) (g .0 .1 .0) (sym (l .letter-at .ensures) ∙ g .1)
 
--- src/poking.rt:24:1
 returns-2 : tie.Need-returns-2
 returns-2 c =
     let l = c .before .before in let a = l .before .before .args in

@@ -7,33 +7,22 @@ use Rattle.pens.proofs.Given.{lone}
 use borrow.Author.Needs.{needs}
 use Rattle.pens.proofs.running.matched.Statement.{statement}
 use Rattle.pens.proofs.running.matched.Tie as tie
-use Rattle.pens.proofs.running.matched.Reads as reads
-use Rattle.pens.proofs.running.matched.Lts as lts
-use Rattle.entries.proofs.add.Reads as add-reads
-use Rattle.entries.proofs.none.Reads as none-reads
-use Rattle.watched.proofs.run_points.Reads as run-points-reads
 
--- src/lib.rt:22:26
 none-requires : tie.Need-none-requires
 none-requires c κs = search needs
 
--- src/lib.rt:22:9
 add-requires : tie.Need-add-requires
 add-requires c κs = search needs
 
--- src/lib.rt:23:5
 run-points-requires : tie.Need-run-points-requires
 run-points-requires c κs = search needs
 
--- src/lib.rt:13:1
 same-length : tie.Need-same-length
 same-length c = search needs
 
--- src/lib.rt:13:1
 same-length-2 : tie.Need-same-length-2
 same-length-2 c = search needs
 
--- src/lib.rt:13:1
 returns : tie.Need-returns
 returns c =
     let r = c .before .before .before .before in let k = r .before .before .before in

@@ -3,37 +3,25 @@ use Rattle.pens.proofs.Joined.{runs}
 use borrow.Author.Needs.{needs}
 use Rattle.pens.proofs.running.run.Statement.{statement}
 use Rattle.pens.proofs.running.run.Tie as tie
-use Rattle.pens.proofs.running.run.Reads as reads
-use Rattle.pens.proofs.running.run.Lts as lts
-use Rattle.pens.proofs.giving.word_at.Reads as word-at-reads
-use Rattle.pens.proofs.running.matched.Reads as matched-reads
-use Rattle.pens.proofs.running.told_of.Reads as told-of-reads
 
--- src/running.rt:53:9
 word-at-requires : tie.Need-word-at-requires
 word-at-requires c κs = search needs
 
--- src/running.rt:54:9
 word-at-requires-2 : tie.Need-word-at-requires-2
 word-at-requires-2 c κs = search needs
 
--- src/running.rt:55:9
 matched-requires : tie.Need-matched-requires
 matched-requires c κs = search needs
 
--- src/running.rt:56:5
 told-of-requires : tie.Need-told-of-requires
 told-of-requires c κs = search needs
 
--- src/running.rt:50:1
 same-length : tie.Need-same-length
 same-length c = search needs
 
--- src/running.rt:50:1
 same-length-2 : tie.Need-same-length-2
 same-length-2 c = search needs
 
--- src/running.rt:50:1
 returns : tie.Need-returns
 returns c =
     let k = c .before .before .before .before .before in let b = k .before .before .before in let s = b .before in let a = s .before .before .before .before .args in
