@@ -137,9 +137,11 @@ fn step_rows() -> Vec<Row<'static>> {
             rows.push(lone_steps(name, program, slots));
         }
     }
-    let more: [(&str, &[Part]); 4] = [
+    let more: [(&str, &[Part]); 6] = [
         ("words and stack", programs::WORDS),
         ("shifts and rev", programs::SHIFTS),
+        ("rev, a column", programs::COLUMN),
+        ("rev alone", programs::REVERSALS),
         ("devices", programs::DEVICES),
         ("exceptions", programs::EXCEPTIONS),
     ];

@@ -124,6 +124,49 @@ pub const SHIFTS: &[Part] = &[(
     ],
 )];
 
+/// Reverses a column of 32 words into another place again and again, as a display driver does.
+pub const COLUMN: &[Part] = &[(
+    0x00,
+    &[
+        "ldis r1, pc",
+        ".0400",
+        "ldis r2, pc",
+        ".0800",
+        "ldis r3, pc",
+        ".0020",
+        "ldis r4, r1",
+        "rev r4, r4",
+        "sto r2, r4",
+        "inc2 r2, r2",
+        "dec1 r3, r3",
+        "ldnzis pc, pc",
+        ".000c",
+        "ld pc, pc",
+        ".0000",
+    ],
+)];
+
+/// Reverses and does nothing else, but for the jump back after every ten words.
+pub const REVERSALS: &[Part] = &[(
+    0x00,
+    &[
+        "ldis r1, pc",
+        ".b5a7",
+        "rev r2, r1",
+        "rev r3, r2",
+        "rev r4, r3",
+        "rev r5, r4",
+        "rev r6, r5",
+        "rev r7, r6",
+        "rev r8, r7",
+        "rev r9, r8",
+        "rev r10, r9",
+        "rev r1, r10",
+        "ld pc, pc",
+        ".0004",
+    ],
+)];
+
 /// Reads the clock and the keyboard and writes to it.
 pub const DEVICES: &[Part] = &[(
     0x00,

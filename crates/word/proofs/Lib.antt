@@ -1,6 +1,6 @@
 pub mod Digits
 pub mod Bitwise
 pub mod Shifts
-pub mod Reverse
+mod Reverse
 pub mod Raised
 pub mod Width

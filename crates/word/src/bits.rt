@@ -34,18 +34,14 @@ pub fn not(a: u16) -> u16
     65535 - a
 }
 
+// Each line swaps neighbouring groups that are reversed by now, so that groups of twice their bits are.
 pub fn rev(a: u16) -> u16
     ensures { λ r. ⌜ r ≡ revAt 16 a ⌝ }
 {
-    let mut rest = a;
-    let mut r: u16 = 0;
-    let mut left: u16 = 16;
-    while 0 < left {
-        r = r * 2 + rest % 2;
-        rest = rest / 2;
-        left = left - 1;
-    }
-    r
+    let pairs = ((a & 0x5555) << 1) | ((a >> 1) & 0x5555);
+    let fours = ((pairs & 0x3333) << 2) | ((pairs >> 2) & 0x3333);
+    let bytes = ((fours & 0x0f0f) << 4) | ((fours >> 4) & 0x0f0f);
+    ((bytes & 0x00ff) << 8) | ((bytes >> 8) & 0x00ff)
 }
 
 // A shift goes by the lowest four bits of its second word.
