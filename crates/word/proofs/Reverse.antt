@@ -47,6 +47,7 @@ swapped-lt w g y h =
     or-lt w (bitAnd y (mask w g) * 2 ^ g % 2 ^ w) (bitAnd (y / 2 ^ g) (mask w g)) (mod-lt (bitAnd y (mask w g) * 2 ^ g) (pow-pos w))
     (and-lt w (y / 2 ^ g) (mask w g) (lt-of-le-of-lt (div-le-self y (2 ^ g)) h) (mask-lt w g))
 
+-- a bit comes up from the group below or down from the group above
 bit-swapped : (w g y i : ℕ) → y < 2 ^ w → i < w
     → bitAt (swapped w g y) i ≡ (leb g i && (bitAt y (i - g) && bitAt (mask w g) (i - g)) || bitAt y (i + g) && bitAt (mask w g) i)
 unfolding swapped

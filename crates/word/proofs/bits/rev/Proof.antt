@@ -4,7 +4,7 @@ use native.Mathlib.Omega.{arith}
 use Rattle.word.proofs.bits.rev.Statement.{statement}
 use Rattle.word.proofs.bits.rev.Tie as tie
 
--- four swaps of 16 bits, whose masks are the law's by computing them
+-- the law at 16 bits: its four masks, computed, are the code's
 returns : tie.Need-returns
 unfolding mask swapped swaps fromBits
 returns c = reverses 4 (c .args .a) (omega arith)
