@@ -32,29 +32,32 @@ pub fn logic(value: u16) -> Computed {
     flagged(value, false, false)
 }
 
+/// c is the last bit shifted out, and 0 where the count is 0: after a shift in 32 bits it stands just above the word.
 #[inline(always)]
 pub fn shl(d: u16, s: u16) -> Computed {
-    let count = s & 15;
-    let value = d << count;
-    flagged(
-        value,
-        count == 1 && d & 0x8000 != 0,
-        (d ^ value) & 0x8000 != 0,
-    )
+    let wide = u32::from(d) << (s & 15);
+    let value = wide as u16;
+    flagged(value, wide & 0x10000 != 0, (d ^ value) & 0x8000 != 0)
+}
+
+/// The last bit shifted out to the right: that of the doubled word which comes to stand lowest, 0 where the count is 0.
+#[inline(always)]
+fn last_right(d: u16, count: u16) -> bool {
+    u32::from(d) << 1 >> count & 1 != 0
 }
 
 #[inline(always)]
 pub fn shr(d: u16, s: u16) -> Computed {
     let count = s & 15;
     let value = d >> count;
-    flagged(value, count == 1 && d & 1 != 0, (d ^ value) & 0x8000 != 0)
+    flagged(value, last_right(d, count), (d ^ value) & 0x8000 != 0)
 }
 
 #[inline(always)]
 pub fn shra(d: u16, s: u16) -> Computed {
     let count = s & 15;
     let value = (d as i16 >> count) as u16;
-    flagged(value, count == 1 && d & 1 != 0, count == 1 && d == 0xffff)
+    flagged(value, last_right(d, count), count == 1 && d == 0xffff)
 }
 
 /// The flags of a comparison of two words.

@@ -190,42 +190,63 @@ fn shift_count(s: u16) -> usize {
     usize::from(s % 16)
 }
 
-/// "Where the source calls c unspecified (count not 1), c=0": the bit that
-/// leaves if shifting by 1 bit, otherwise 0.
-fn shift_carry(count: usize, leaving: bool) -> bool {
-    count == 1 && leaving
-}
-
 /// "Shifts the value of register `dstr` to the left (adding zeros at the
-/// right)"; "`c` to the highest bit of the original value of `dstr` if
-/// shifting by 1 bit"; "`o` to 1 if the operation changes the value of the
-/// highest bit of `dstr`".
-pub fn shl(d: u16, s: u16) -> (u16, u16) {
-    let count = shift_count(s);
-    let value = from_bits(|i| i >= count && bit(d, i - count));
-    let carry = shift_carry(count, bit(d, 15));
-    result(value, carry, bit(value, 15) != bit(d, 15))
+/// right)".
+fn left(d: u16, count: usize) -> u16 {
+    from_bits(|i| i >= count && bit(d, i - count))
 }
 
 /// "Shifts the value of register `dstr` to the right (adding zeros at the
-/// left)"; "`c` to the lowest bit of the original value of `dstr` if shifting
-/// by 1 bit"; "`o` to 1 if the operation changes the value of the highest bit
-/// of `dstr`".
-pub fn shr(d: u16, s: u16) -> (u16, u16) {
-    let count = shift_count(s);
-    let value = from_bits(|i| i + count <= 15 && bit(d, i + count));
-    let carry = shift_carry(count, bit(d, 0));
-    result(value, carry, bit(value, 15) != bit(d, 15))
+/// left)".
+fn right(d: u16, count: usize) -> u16 {
+    from_bits(|i| i + count <= 15 && bit(d, i + count))
 }
 
 /// "Shifts the value of register `dstr` to the right, setting the shifted-from
-/// bits at the left to the value of the sign (highest) bit"; "`c` to the
-/// lowest bit of the original value of `dstr` if shifting by 1 bit"; "shra has
-/// o=1 only for count 1 on 0xffff, else 0".
+/// bits at the left to the value of the sign (highest) bit".
+fn right_signed(d: u16, count: usize) -> u16 {
+    from_bits(|i| bit(d, (i + count).min(15)))
+}
+
+/// 02, Q-2: "For a count of 2 to 15 the carry is the last bit shifted out, for
+/// shl, shr and shra alike; for count 0 it is 0": the word is shifted by 1 bit
+/// as often as `count` says, and each time the bit at `end` goes out.
+fn last_bit_out(d: u16, count: usize, end: usize, shift: fn(u16, usize) -> u16) -> bool {
+    let mut word = d;
+    let mut last = false;
+    for _ in 0..count {
+        last = bit(word, end);
+        word = shift(word, 1);
+    }
+    last
+}
+
+/// "`c` to the highest bit of the original value of `dstr` if shifting by 1
+/// bit"; "`o` to 1 if the operation changes the value of the highest bit of
+/// `dstr`".
+pub fn shl(d: u16, s: u16) -> (u16, u16) {
+    let count = shift_count(s);
+    let value = left(d, count);
+    let carry = last_bit_out(d, count, 15, left);
+    result(value, carry, bit(value, 15) != bit(d, 15))
+}
+
+/// "`c` to the lowest bit of the original value of `dstr` if shifting by 1
+/// bit"; "`o` to 1 if the operation changes the value of the highest bit of
+/// `dstr`".
+pub fn shr(d: u16, s: u16) -> (u16, u16) {
+    let count = shift_count(s);
+    let value = right(d, count);
+    let carry = last_bit_out(d, count, 0, right);
+    result(value, carry, bit(value, 15) != bit(d, 15))
+}
+
+/// "`c` to the lowest bit of the original value of `dstr` if shifting by 1
+/// bit"; "shra has o=1 only for count 1 on 0xffff, else 0".
 pub fn shra(d: u16, s: u16) -> (u16, u16) {
     let count = shift_count(s);
-    let value = from_bits(|i| bit(d, (i + count).min(15)));
-    let carry = shift_carry(count, bit(d, 0));
+    let value = right_signed(d, count);
+    let carry = last_bit_out(d, count, 0, right_signed);
     result(value, carry, count == 1 && d == 0xffff)
 }
 
@@ -310,12 +331,35 @@ mod tests {
     fn shift_flags() {
         assert_eq!(shl(0x8000, 1), (0, Z | C | O));
         assert_eq!(shl(0x8000, 2), (0, Z | O));
+        assert_eq!(shl(0x4000, 2), (0, Z | C));
+        assert_eq!(shl(0x0002, 15), (0, Z | C));
         assert_eq!(shl(0xc000, 0x11), (0x8000, C | S));
         assert_eq!(shr(0x8001, 1), (0x4000, C | O));
         assert_eq!(shr(0x8001, 16), (0x8001, S));
-        assert_eq!(shra(0xffff, 2), (0xffff, S));
+        assert_eq!(shr(0x0006, 2), (0x0001, C));
+        assert_eq!(shr(0x4000, 15), (0, Z | C));
+        assert_eq!(shra(0xffff, 2), (0xffff, C | S));
+        assert_eq!(shra(0x8001, 2), (0xe000, S));
+        assert_eq!(shra(0xbfff, 15), (0xffff, S));
         assert_eq!(shra(0x8001, 1), (0xc000, C | S));
         assert_eq!(shra(0x0001, 1), (0, Z | C));
+    }
+
+    /// The bit that goes out last agrees with the place where it stood.
+    #[test]
+    fn carries_of_shifts_agree_with_places() {
+        for word in 0..=0xffffu16 {
+            for count in 1..16 {
+                let high = (word >> (16 - count) & 1) << 5;
+                let low = (word >> (count - 1) & 1) << 5;
+                assert_eq!(shl(word, count).1 & C, high);
+                assert_eq!(shr(word, count).1 & C, low);
+                assert_eq!(shra(word, count).1 & C, low);
+            }
+            for operation in [shl, shr, shra] {
+                assert_eq!(operation(word, 0).1 & C, 0);
+            }
+        }
     }
 
     #[test]

@@ -1,7 +1,7 @@
 -- The arithmetic unit: each computational instruction's value and flags, from the words in the destination and in the source register.
--- The sentences quoted are the source's (its alphabetical list and its groups of instructions) and the house's where it completes them.
+-- The sentences quoted are the source's (its alphabetical list and its groups of instructions) and the house's where it completes them, 02's marked so.
 use mathlib.Core.Bool.{Bool, false, cond, xor, _&&_}
-use Prim.Native.Nat.{ℕ, _+_, _%_, _^_}
+use Prim.Native.Nat.{ℕ, _+_, _-_, _%_, _^_}
 use lib.Dec.{ltb, leb, eqb}
 use Rattle.word.specs.Word.{plusAt, minusAt}
 use Rattle.word.specs.Bits.{bitAt, andAt, orAt, xorAt, notAt, revAt, shlAt, shrAt, shraAt}
@@ -37,18 +37,23 @@ subOf a b = answerWith (minusAt 16 a b) (ltb a b) (differenceOverflows 16 a b)
 unfoldable pub logicOf : ℕ → Answer
 logicOf v = answerWith v false false
 
--- by "the lowest 4 bits" of the second word; "c to the highest bit of the original value of dstr if shifting by 1 bit", and
--- "Where the source calls c unspecified (count not 1), c=0"; "o to 1 if the operation changes the value of the highest bit"
-unfoldable pub shlOf : ℕ → ℕ → Answer
-shlOf a n = answerWith (shlAt 16 a n) (eqb n 1 && bitAt a 15) (xor (bitAt a 15) (bitAt (shlAt 16 a n) 15))
+-- 02, Q-2: "For a count of 2 to 15 the carry is the last bit shifted out, for shl, shr and shra alike; for count 0 it is 0". After a shift of a by n
+-- it is bit i of a, where i is the place that goes out last. With a count of 1 that is the bit which the source names: no case of its own.
+abbrev pub lastOut : (a n i : ℕ) → Bool
+lastOut a n i = ltb 0 n && bitAt a i
 
--- "c to the lowest bit of the original value of dstr if shifting by 1 bit"
+-- by "the lowest 4 bits" of the second word, n; to the left the last place is 16 - n: "the highest bit of the original value of dstr if shifting
+-- by 1 bit"; "o to 1 if the operation changes the value of the highest bit"
+unfoldable pub shlOf : ℕ → ℕ → Answer
+shlOf a n = answerWith (shlAt 16 a n) (lastOut a n (16 - n)) (xor (bitAt a 15) (bitAt (shlAt 16 a n) 15))
+
+-- to the right it is n - 1: "the lowest bit of the original value of dstr if shifting by 1 bit"
 unfoldable pub shrOf : ℕ → ℕ → Answer
-shrOf a n = answerWith (shrAt 16 a n) (eqb n 1 && bitAt a 0) (xor (bitAt a 15) (bitAt (shrAt 16 a n) 15))
+shrOf a n = answerWith (shrAt 16 a n) (lastOut a n (n - 1)) (xor (bitAt a 15) (bitAt (shrAt 16 a n) 15))
 
 -- "shra has o=1 only for count 1 on 0xffff, else 0"
 unfoldable pub shraOf : ℕ → ℕ → Answer
-shraOf a n = answerWith (shraAt 16 a n) (eqb n 1 && bitAt a 0) (eqb n 1 && eqb a 0xffff)
+shraOf a n = answerWith (shraAt 16 a n) (lastOut a n (n - 1)) (eqb n 1 && eqb a 0xffff)
 
 -- "Unary operations use the source register as the operand"; "Binary operations use the destination register as the first and the source
 -- register as the second operand"; "Shifts use the source's lowest 4 bits"

@@ -4,8 +4,8 @@ use word::choice;
 use word::signed;
 use word::sums;
 ghost use mathlib.Core.Path.{_≡_};
-ghost use Prim.Native.Nat.{_%_};
-ghost use Rattle.alu.specs.Unit.{flagsOf, answerAs, addOf, subOf, logicOf, shlOf, shrOf, shraOf, aluOf, compareOf};
+ghost use Prim.Native.Nat.{_-_, _%_, _≤_};
+ghost use Rattle.alu.specs.Unit.{flagsOf, answerAs, addOf, subOf, logicOf, lastOut, shlOf, shrOf, shraOf, aluOf, compareOf};
 
 pub enum AluOp {
     Add,
@@ -78,15 +78,30 @@ fn logic(v: u16) -> Outcome
     }
 }
 
+// The last bit that a shift by n to the left puts out. It then stands just above the word, where a shift by 0 has put nothing: 0 is no case of its own.
+fn last_left(a: u16, n: u16) -> bool
+    requires { ⌜ n ≤ 16 ⌝ }
+    ensures { λ r. ⌜ r ≡ lastOut a n (16 - n) ⌝ }
+{
+    ((a as u32) << n) / 65536 % 2 == 1
+}
+
+// To the right. There it would stand just below the word; so the word is doubled first, which leaves a 0 there for a shift by 0.
+fn last_right(a: u16, n: u16) -> bool
+    requires { ⌜ n ≤ 16 ⌝ }
+    ensures { λ r. ⌜ r ≡ lastOut a n (n - 1) ⌝ }
+{
+    ((a as u32 * 2) >> n) % 2 == 1
+}
+
 fn shl(a: u16, by: u16) -> Outcome
     ensures { λ r. ⌜ answerAs r ≡ shlOf a (by % 16) ⌝ }
 {
     let v = bits::shl(a, by);
-    let top = bits::bit(a, 15);
     Outcome {
         value: v,
-        c: choice::both(by % 16 == 1, top),
-        o: choice::unlike(top, bits::bit(v, 15)),
+        c: last_left(a, by % 16),
+        o: choice::unlike(bits::bit(a, 15), bits::bit(v, 15)),
     }
 }
 
@@ -94,22 +109,21 @@ fn shr(a: u16, by: u16) -> Outcome
     ensures { λ r. ⌜ answerAs r ≡ shrOf a (by % 16) ⌝ }
 {
     let v = bits::shr(a, by);
-    let top = bits::bit(a, 15);
     Outcome {
         value: v,
-        c: choice::both(by % 16 == 1, bits::bit(a, 0)),
-        o: choice::unlike(top, bits::bit(v, 15)),
+        c: last_right(a, by % 16),
+        o: choice::unlike(bits::bit(a, 15), bits::bit(v, 15)),
     }
 }
 
 fn shra(a: u16, by: u16) -> Outcome
     ensures { λ r. ⌜ answerAs r ≡ shraOf a (by % 16) ⌝ }
 {
-    let one = by % 16 == 1;
+    let n = by % 16;
     Outcome {
         value: bits::shra(a, by),
-        c: choice::both(one, bits::bit(a, 0)),
-        o: choice::both(one, a == 65535),
+        c: last_right(a, n),
+        o: choice::both(n == 1, a == 65535),
     }
 }
 

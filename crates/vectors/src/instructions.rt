@@ -1,5 +1,6 @@
 // Opcodes, conditions, the arithmetic unit over a grid of words, and names.
 use crate::grid;
+use crate::shifts;
 use alu::AluOp;
 use alu::Answer;
 use alu::CompareOp;
@@ -311,5 +312,6 @@ pub fn run(input: &[u8]) {
     condition_rows(&words[0..n]);
     all_digests(&table, &words[0..n]);
     all_edges(&table, &words[0..9]);
+    shifts::all();
     name_rows(&input[names..]);
 }

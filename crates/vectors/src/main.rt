@@ -1,6 +1,7 @@
 // Runs the arithmetic unit, the instruction set and the names of registers on the vectors of the independent model; what it prints is compared with the model's answers.
 mod grid;
 mod instructions;
+mod shifts;
 
 use libc::STDIN_FILENO;
 ghost use mathlib.Core.Path.{_≡_};

@@ -179,6 +179,7 @@ pub fn output() -> String {
     text += &condition_lines(&grid);
     text += &digest_lines(&grid);
     text += &pair_lines(&grid[..HEAD]);
+    text += &shift_lines();
     text += &name_lines(&all_names());
     text
 }
@@ -232,6 +233,26 @@ fn pair_lines(words: &[u16]) -> String {
                 let (value, flags) = operation(*d, *s);
                 text += &format!("{name} {d:04x} {s:04x} {value:04x} {flags:04x}\n");
             }
+        }
+    }
+    text
+}
+
+/// A line for each shift and count: a digest over all words.
+fn shift_lines() -> String {
+    let shifts = alu::OPERATIONS
+        .iter()
+        .filter(|(name, _)| name.starts_with("sh"));
+    let mut text = String::new();
+    for (name, shift) in shifts {
+        for count in 0..16 {
+            let mut digest = Digest::new();
+            for d in 0..=0xffff {
+                let (value, flags) = shift(d, count);
+                digest.absorb(value);
+                digest.absorb(flags);
+            }
+            text += &format!("{name} by {count} {}\n", digest.digits());
         }
     }
     text

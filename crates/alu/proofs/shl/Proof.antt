@@ -7,7 +7,7 @@ returns : tie.Need-returns
 unfolding shlOf
 returns c =
     let c3 = c .before .before .before in
-    rw (c .unlike .ensures, c .before .bit2 .ensures, c .before .before .both .ensures, c3 .bit .ensures, c3 .before .shl .ensures)
+    rw (c .unlike .ensures, c .before .bit2 .ensures, c .before .before .bit .ensures, c3 .last-left .ensures, c3 .before .shl .ensures)
 
 pub shl-spec : {M : Type 1} → statement M
 shl-spec =
