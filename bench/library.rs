@@ -1,7 +1,20 @@
 //! The calls of the C boundary: the functions of the linked library, and any other set of functions of the same signatures.
 
+use std::ops::Range;
+
 /// The state as it crosses the boundary.
 pub type State = [u16; 32];
+
+/// The starting state: T=1, and a first protected address above the last one, which means none.
+pub const START: State = {
+    let mut state = [0; 32];
+    state[24] = 2;
+    state[PROTECTED.start] = 1;
+    state
+};
+
+/// The words of the state that have the first and the last protected address.
+pub const PROTECTED: Range<usize> = 30..32;
 
 /// An entry of a watched run's list as it crosses the boundary: its address, its kind (1 break, 2 watch) and its hits.
 pub type Entry = [u16; 3];

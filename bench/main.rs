@@ -15,7 +15,7 @@ mod work;
 extern crate mb50;
 
 use emulator::boundary;
-use library::{Functions, LINKED};
+use library::{Functions, LINKED, PROTECTED};
 use nights::Night;
 use programs::Part;
 use std::process::ExitCode;
@@ -150,6 +150,7 @@ fn step_rows() -> Vec<Row<'static>> {
         rows.push(long_runs(name, program, false, SLOTS));
         rows.push(lone_steps(name, program, SLOTS));
     }
+    rows.extend([0, SLOTS].map(protected_runs));
     rows.push(step_backs("registers", programs::REGISTERS));
     rows.push(step_backs("copied bytes", programs::COPY));
     rows.push(step_backs("words and stack", programs::WORDS));
@@ -169,6 +170,13 @@ fn long_runs(name: &str, program: &[Part], ticks: bool, slots: usize) -> Row<'st
             calls: 4,
         },
     }
+}
+
+/// The steps of the program that copies bytes, of which half are dropped.
+fn protected_runs(slots: usize) -> Row<'static> {
+    let mut row = long_runs("half protected", programs::COPY, false, slots);
+    row.desk.state[PROTECTED].copy_from_slice(&programs::HALF_OF_COPY);
+    row
 }
 
 /// The steps of a program in short runs.

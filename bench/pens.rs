@@ -1,7 +1,7 @@
 //! The program of the pen bench in plain Rust, over the emulator, with the arguments and the output of the proved one: it looks pens up by an index,
 //! which has the first line of each number. `bench/run` is to measure it beside the proved program.
 //!
-//! Usage: pens --at N --stop N --budget N [--set REGISTER=N].. --ram N --slots N FIRMWARE PENS TODAY LASTGOOD
+//! Usage: pens --at N --stop N --budget N [--set REGISTER=N].. --ram N --slots N [--protect N N] FIRMWARE PENS TODAY LASTGOOD
 //!        pens make LINES PENS FOLDER: writes the files of a night with manifests of so many lines and so many pens, and its arguments, one a line
 
 #[allow(dead_code)] // the rest is for the benchmark of the calls
@@ -12,7 +12,8 @@ mod nights;
 #[allow(dead_code)]
 mod programs;
 
-use emulator::{named_pen, pens, State};
+use emulator::{named_pen, pens};
+use library::{PROTECTED, START};
 use nights::Night;
 use std::collections::HashMap;
 use std::io::{self, Write};
@@ -35,6 +36,8 @@ struct Given {
     registers: Vec<u16>,
     ram: usize,
     slots: usize,
+    /// The first and the last protected address.
+    protected: Option<[u16; 2]>,
     files: Vec<String>,
 }
 
@@ -91,6 +94,7 @@ fn given(arguments: Vec<String>) -> Option<Given> {
             "--budget" => given.setup[2] = number(&value()?)?,
             "--ram" => given.ram = number(&value()?)?.into(),
             "--slots" => given.slots = number(&value()?)?.into(),
+            "--protect" => given.protected = Some([number(&value()?)?, number(&value()?)?]),
             "--set" => {
                 let (name, content) = value()?.split_once('=').map(pair)?;
                 given.registers.extend([name?, content?]);
@@ -124,8 +128,10 @@ fn number(text: &str) -> Option<u16> {
 fn night(given: &Given, texts: &[Vec<u8>]) -> Vec<u8> {
     let index = index(&texts[2..]);
     let setup = [&given.setup[..], &given.registers].concat();
-    let mut state: State = [0; 32];
-    state[24] = 2;
+    let mut state = START;
+    if let Some(protected) = given.protected {
+        state[PROTECTED].copy_from_slice(&protected);
+    }
     let mut ram = loaded(given.ram, &texts[0]);
     let mut journal = vec![0; 32 * given.slots];
     let mut out = Vec::new();

@@ -47,6 +47,9 @@ pub const COPY: &[Part] = &[(
     ],
 )];
 
+/// The second half of what it copies to, as a stretch that is protected.
+pub const HALF_OF_COPY: [u16; 2] = [0x0900, 0x09ff];
+
 /// Raises an interrupt in each round of a loop, beside those of the clock. The handler counts, takes the pending bits back and returns by
 /// reti.
 pub const INTERRUPTS: &[Part] = &[

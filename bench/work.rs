@@ -1,6 +1,6 @@
 //! What is measured: a desk, and work on it that either implementation does.
 
-use crate::library::{Call, Entry, Functions, Pen, State};
+use crate::library::{Call, Entry, Functions, Pen, State, START};
 use crate::nights::Night;
 use std::time::{Duration, Instant};
 
@@ -57,12 +57,10 @@ const INPUTS: [Call; 8] = [
 ];
 
 impl Desk {
-    /// A desk after a reset.
+    /// A desk after a reset, with nothing protected.
     pub fn new(ram: Vec<u8>, slots: usize) -> Desk {
-        let mut state = [0; 32];
-        state[24] = 2;
         Desk {
-            state,
+            state: START,
             ram,
             journal: vec![0x5555; 32 * slots],
             list: Vec::new(),

@@ -1,6 +1,7 @@
 //! The model behind the C boundary: the same words in, the same words and result out.
 
 use crate::benches::Pen;
+use crate::bus::Stretch;
 use crate::cpu::{Cpu, PC};
 use crate::library::{self, Call, State};
 use crate::machine::{self, Answer, Cause, Machine};
@@ -103,9 +104,12 @@ pub fn assemble(line: &[u8]) -> u64 {
 }
 
 /// The state words: 0–15 registers, 16–21 csr0–csr5, 22 clock, 23 RXD + 256·TXD, 24 R + 2·T + 4·halted (modulo 8), 25 next slot, 26 records
-/// held; the others are not read.
+/// held, 30 and 31 the first and the last protected address; the others are not read.
 fn read(state: &State) -> Machine {
-    let mut cpu = Cpu::new();
+    let mut cpu = Cpu::new(Stretch {
+        first: state[30],
+        last: state[31],
+    });
     cpu.registers.copy_from_slice(&state[..16]);
     cpu.csrs.copy_from_slice(&state[16..22]);
     cpu.devices.clock = state[22];
@@ -121,7 +125,7 @@ fn read(state: &State) -> Machine {
     }
 }
 
-/// The same words, with 27–31 as 0.
+/// The same words, with 27–29 as 0.
 fn write(machine: &Machine, state: &mut State) {
     *state = [0; 32];
     state[..16].copy_from_slice(&machine.cpu.registers);
@@ -131,6 +135,8 @@ fn write(machine: &Machine, state: &mut State) {
     state[24] = machine.cpu.marks();
     state[25] = machine.next as u16;
     state[26] = machine.held as u16;
+    state[30] = machine.cpu.stretch.first;
+    state[31] = machine.cpu.stretch.last;
 }
 
 /// Bits 0–15 the number, 16–31 the steps of a run, 32–55 the bus bytes of a step or a run, 56–63 a run's cause. The model counts a lone step

@@ -1,7 +1,7 @@
 //! How a desk is at first, and what befalls it between calls.
 
 use crate::desk::Desk;
-use crate::library::State;
+use crate::library::{State, PROTECTED, START};
 use crate::programs::Programs;
 use crate::random::Random;
 
@@ -31,11 +31,13 @@ pub fn desk(random: &mut Random, programs: &Programs) -> Desk {
     }
     let ram = programs.ram(random, ram_length);
     let journal = journal(random, length, ram_length);
-    let state = if random.percent(35) {
-        reset()
+    let mut state = if random.percent(35) {
+        START
     } else {
         state(random, ram_length, slots)
     };
+    let stretch = stretch(random, &state, ram_length);
+    state[PROTECTED].copy_from_slice(&stretch);
     Desk::new(state, ram, journal)
 }
 
@@ -53,13 +55,35 @@ fn ram_length(random: &mut Random) -> usize {
     }
 }
 
-/// The starting state.
-fn reset() -> State {
-    let mut state = [0; 32];
-    state[MARKS] = 2;
-    state
+/// The first and the last protected address: none; about what a register points to, where code and data are, one byte or a few; RAM from there on or
+/// up to there; all of RAM; across its end; over the devices; the first above the last; all addresses; any two.
+fn stretch(random: &mut Random, state: &State, ram_length: usize) -> [u16; 2] {
+    let end = ram_length as u16;
+    let last = end.wrapping_sub(1);
+    let register = state[random.below(16)];
+    let near = register.wrapping_add(random.pick(&[0, 0, 1, u16::MAX, u16::MAX - 1]));
+    let low = random.below(ram_length.clamp(1, 80)) as u16;
+    let place = random.pick(&[near, low]);
+    let length = random.below(12) as u16;
+    match random.below(24) {
+        0..=5 => [1, 0],
+        6..=9 => [place, place],
+        10..=12 => [place, place.saturating_add(length)],
+        13 => [place.saturating_sub(length), place],
+        14 => [place, last],
+        15 => [0, place],
+        16 => [0, last],
+        17 => [last.saturating_sub(length), end.saturating_add(length)],
+        18 => [end, u16::MAX],
+        19 => [0xffe0, random.pick(&[0xffe0, 0xffe1, 0xfff1])],
+        20 => [place.saturating_add(1), place],
+        21 => [u16::MAX, random.pick(&[0, u16::MAX])],
+        22 => [0, u16::MAX],
+        _ => [number(random, ram_length), number(random, ram_length)],
+    }
 }
 
+/// A state without a stretch of its own.
 fn state(random: &mut Random, ram_length: usize, slots: usize) -> State {
     let mut state = [0; 32];
     for word in &mut state[..24] {
@@ -111,7 +135,7 @@ fn spoil_state(random: &mut Random, state: &mut State, slots: usize) {
         2 => state[NEXT] = slots + random.pick(&[0, 1, 2, 100]),
         3 => state[HELD] = 0xffff,
         4 | 5 => state[MARKS] = random.word(),
-        _ => state[27 + random.below(5)] = random.word(),
+        _ => state[27 + random.below(3)] = random.word(),
     }
 }
 
@@ -168,7 +192,8 @@ pub fn disturb(random: &mut Random, desk: &mut Desk, programs: &Programs) {
     let (ram_length, slots) = (desk.ram().len(), desk.journal().len() / RECORD);
     match random.below(12) {
         0 => {
-            let fresh = state(random, ram_length, slots);
+            let mut fresh = state(random, ram_length, slots);
+            fresh[PROTECTED].copy_from_slice(&desk.state()[PROTECTED]);
             (0..32).for_each(|index| desk.set_state(index, fresh[index]));
         }
         1 => {
@@ -176,9 +201,15 @@ pub fn disturb(random: &mut Random, desk: &mut Desk, programs: &Programs) {
             spoil_state(random, &mut spoilt, slots);
             (0..32).for_each(|index| desk.set_state(index, spoilt[index]));
         }
-        2 => desk.set_state(27 + random.below(5), random.word()),
+        2 => {
+            let stretch = stretch(random, desk.state(), ram_length);
+            PROTECTED
+                .zip(stretch)
+                .for_each(|(index, word)| desk.set_state(index, word));
+        }
         3 => desk.set_state(F, flags(random)),
         4 => mend(random, desk),
+        7 => desk.set_state(27 + random.below(3), random.word()),
         5 | 6 if slots > 0 => spoil_newest(random, desk, slots),
         _ => {
             let at = usize::from(desk.state()[PC]);

@@ -1,8 +1,11 @@
 //! A library with the boundary's names over the benchmark's emulator, to stand in for the proved one: the harness and the fuzzer can be tried
 //! without it, the fuzzer tests the emulator itself, and a copy with a fault shows that the fuzzer finds faults.
 //!
-//! `MB50_BROKEN`, when this is compiled, names the fault: `flag`, `journal`, `guard`, `state`, `watch`, `hits`, or one of those of a pen, which
-//! `broken_pen` has. Each shows only now and then.
+//! `MB50_BROKEN`, when this is compiled, names the fault: `flag`, `journal`, `guard`, `state`, `watch`, `hits`, one of those of a pen, which
+//! `broken_pen` has, or one of the protected stretch: `last`, `word`, `bus`, `old`, `device`, `poked` and `hit`, which `drops.rs` has, and `given`, by
+//! which a reset forgets the stretch. Each shows only now and then.
+
+mod drops;
 
 #[path = "../bench/emulator/mod.rs"]
 #[allow(dead_code)]
@@ -41,8 +44,6 @@ export!(mb50_tick, tick);
 export!(mb50_receive, receive, byte: u8);
 export!(mb50_sent, sent);
 export!(mb50_set_register, set_register, number: u8, content: u16);
-export!(mb50_poke, poke, address: u16, byte: u8);
-export!(mb50_reset, reset);
 export!(mb50_run, run, budget: u16);
 
 /// # Safety
@@ -58,26 +59,72 @@ pub unsafe extern "C" fn mb50_step(
     if BROKEN.is_empty() {
         return boundary::step(state, ram, n, journal, m);
     }
-    let pc = usize::from(*state.add(15));
-    let opcode = from_raw_parts(ram, n).get(pc).copied();
-    let next = usize::from(*state.add(25));
-    let result = boundary::step(state, ram, n, journal, m);
-    if result & 0xffff == 0 {
-        let state = from_raw_parts_mut(state, 32);
-        let journal = from_raw_parts_mut(journal, m);
-        spoil_step(opcode, state, journal.get_mut(32 * next..32 * next + 32));
+    let state = &mut *state.cast::<State>();
+    let (ram, journal) = (from_raw_parts_mut(ram, n), from_raw_parts_mut(journal, m));
+    broken_step(state, ram, journal)
+}
+
+/// The faults of a lone step: dec2 leaves o 0, a word's old upper byte is not kept, and those of the stretch.
+fn broken_step(state: &mut State, ram: &mut [u8], journal: &mut [u16]) -> u64 {
+    let before = *state;
+    let opcode = ram.get(usize::from(before[15])).copied();
+    if BROKEN == "last" {
+        drops::narrow(state);
+    }
+    let result = emulator::step(state, ram, journal);
+    state[30..].copy_from_slice(&before[30..]);
+    if result & 0xffff != 0 {
+        return result;
+    }
+    if BROKEN == "flag" && opcode == Some(0x06) {
+        state[14] &= !0x80;
+    }
+    let start = 32 * usize::from(before[25]);
+    match journal.get_mut(start..start + 32) {
+        Some(record) if BROKEN == "journal" => {
+            record[27] &= 0x00ff;
+            result
+        }
+        Some(record) => drops::spoil_step(BROKEN, result, state, ram, record),
+        None => result,
+    }
+}
+
+/// # Safety
+/// The boundary's own terms.
+#[no_mangle]
+pub unsafe extern "C" fn mb50_poke(
+    state: *mut u16,
+    ram: *mut u8,
+    n: usize,
+    journal: *mut u16,
+    m: usize,
+    address: u16,
+    byte: u8,
+) -> u64 {
+    let kept = drops::kept(from_raw_parts(state, 32), from_raw_parts(ram, n), address);
+    let result = boundary::poke(state, ram, n, journal, m, address, byte);
+    if let ("poked", Some(kept)) = (BROKEN, kept) {
+        from_raw_parts_mut(ram, n)[usize::from(address)] = kept;
     }
     result
 }
 
-/// The faults of a lone step: dec2 leaves o 0, and a word's old upper byte is not kept.
-fn spoil_step(opcode: Option<u8>, state: &mut [u16], record: Option<&mut [u16]>) {
-    if BROKEN == "flag" && opcode == Some(0x06) {
-        state[14] &= !0x80;
+/// # Safety
+/// The boundary's own terms.
+#[no_mangle]
+pub unsafe extern "C" fn mb50_reset(
+    state: *mut u16,
+    ram: *mut u8,
+    n: usize,
+    journal: *mut u16,
+    m: usize,
+) -> u64 {
+    let result = boundary::reset(state, ram, n, journal, m);
+    if BROKEN == "given" && result == 0 {
+        from_raw_parts_mut(state, 32)[30..].fill(0);
     }
-    if let ("journal", Some(record)) = (BROKEN, record) {
-        record[27] &= 0x00ff;
-    }
+    result
 }
 
 /// # Safety
@@ -90,10 +137,10 @@ pub unsafe extern "C" fn mb50_step_back(
     journal: *mut u16,
     m: usize,
 ) -> u64 {
-    let last = *state.add(31);
+    let word = *state.add(29);
     let result = boundary::step_back(state, ram, n, journal, m);
     if BROKEN == "state" && result == 0 {
-        *state.add(31) = last;
+        *state.add(29) = word;
     }
     result
 }
@@ -111,6 +158,16 @@ pub unsafe extern "C" fn mb50_run_watched(
     entries: usize,
     budget: u16,
 ) -> u64 {
+    if BROKEN == "hit" && budget > 0 {
+        let (state, ram) = (&mut *state.cast::<State>(), from_raw_parts_mut(ram, n));
+        let (journal, list) = (
+            from_raw_parts_mut(journal, m),
+            from_raw_parts_mut(list, entries),
+        );
+        if let Some(result) = stops_by_drop(state, ram, journal, list) {
+            return result;
+        }
+    }
     let before = from_raw_parts(list, entries).to_vec();
     let result = boundary::run_watched(state, ram, n, journal, m, list, entries, budget);
     if BROKEN.is_empty() || result & 0xffff != 0 {
@@ -129,11 +186,34 @@ pub unsafe extern "C" fn mb50_run_watched(
     result
 }
 
+/// A fault of the watched run: its first step stops it by a dropped byte. Where it does not, nothing changes.
+fn stops_by_drop(
+    state: &mut State,
+    ram: &mut [u8],
+    journal: &mut [u16],
+    list: &mut [Entry],
+) -> Option<u64> {
+    let next = usize::from(state[25]);
+    let (mut words, mut bytes, mut records) = (*state, ram.to_vec(), journal.to_vec());
+    let mut entries = list.to_vec();
+    let result = emulator::run_watched(&mut words, &mut bytes, &mut records, &mut entries, 1);
+    let record = records.get(32 * next..32 * next + 32)?;
+    if result & 0xffff != 0 || result >> 16 & 0xffff == 0 || result >> 56 != BY_BUDGET {
+        return None;
+    }
+    let place = drops::hit(&words, &bytes, record, &mut entries)?;
+    *state = words;
+    ram.copy_from_slice(&bytes);
+    journal.copy_from_slice(&records);
+    list.copy_from_slice(&entries);
+    Some(result | BY_WATCH << 56 | place << 58)
+}
+
 /// Why a watched run stopped, as its result has it.
 const BY_BUDGET: u64 = 0;
 const BY_WATCH: u64 = 2;
 
-/// A fault of the watched run: breaks where the budget ended are counted.
+/// Another: breaks where the budget ended are counted.
 fn count_breaks(pc: u16, list: &mut [Entry]) {
     for entry in list.iter_mut().filter(|entry| entry[..2] == [pc, 1]) {
         entry[2] = entry[2].saturating_add(1);

@@ -1,7 +1,9 @@
 /* The calls of libmb50.a: the MB5016 desk machine and the text of its instructions. docs/BOUNDARY.md describes them, with the refusals' numbers.
  *
  * state       32 words: 0-15 r0-r15 (13 ia, 14 f, 15 pc); 16-21 csr0-csr5; 22 clock; 23 RXD + 256*TXD; 24 R + 2*T + 4*halted; 25 next slot;
- *             26 records held; 27-31 not read, written as 0. The starting state is all 0 but word 24, which is 2.
+ *             26 records held; 27-29 not read, written as 0; 30 and 31 the first and the last protected address, given back as they came. A store by an
+ *             instruction to a byte of RAM there is dropped; a first above the last means none. The starting state is all 0 but word 24, which is 2,
+ *             and words 30 and 31: 1 and 0 where nothing is protected.
  * ram, n      n bytes of RAM, at most 65504
  * journal, m  m words: slots of 32 words, at most 1024 of them, or none
  * list, entries  so many breakpoints and watches, at most 64
@@ -35,9 +37,9 @@ uint64_t mb50_step_back(uint16_t *state, uint8_t *ram, size_t n, uint16_t *journ
 /* A breakpoint (kind 1) or a watch (kind 2), and how often it stopped a run; the count stops at 65535. */
 typedef struct { uint16_t address, kind, hits; } mb50_entry;
 
-/* A run that stops also before a step with pc at a break's address, the first step excepted, and after a step that stored to a watch's. It counts the hits in
- * the list. Bits 56-57 of the result are the cause: 0 budget used up, 1 halted, 2 watch, 3 break; bits 58-63 the place in the list, from 0, of the first
- * entry that stopped it, or 0. */
+/* A run that stops also before a step with pc at a break's address, the first step excepted, and after a step that stored to a watch's; a dropped byte is not
+ * stored. It counts the hits in the list. Bits 56-57 of the result are the cause: 0 budget used up, 1 halted, 2 watch, 3 break; bits 58-63 the place in the
+ * list, from 0, of the first entry that stopped it, or 0. */
 uint64_t mb50_run_watched(uint16_t *state, uint8_t *ram, size_t n, uint16_t *journal, size_t m, mb50_entry *list, size_t entries, uint16_t budget);
 
 /* One pen of the overnight bench. line has the pen's number, 1 to 9 digits and nothing else. today and last_good are manifests in UTF-8: lines of a number, a

@@ -23,6 +23,39 @@ const READY: u16 = 0xffe2;
 const CLOCK_LOW: u16 = 0xfff0;
 const CLOCK_HIGH: u16 = 0xfff1;
 
+/// The last address of the longest RAM.
+const LAST_OF_RAM: u16 = 0xffdf;
+
+/// The addresses that a store does not reach, as the first of them and how many there are: one comparison finds them. Those that are never RAM are
+/// left out, so that the number is a word.
+#[derive(Clone, Copy)]
+pub struct Stretch {
+    first: u16,
+    length: u16,
+}
+
+impl Stretch {
+    /// The stretch from a first address to a last one, which is empty where the first is above the last.
+    pub fn new(first: u16, last: u16) -> Stretch {
+        let end = last.min(LAST_OF_RAM) + 1;
+        Stretch {
+            first,
+            length: end.saturating_sub(first),
+        }
+    }
+
+    #[inline(always)]
+    pub fn has(self, address: u16) -> bool {
+        address.wrapping_sub(self.first) < self.length
+    }
+
+    /// Whether a word's bytes are to be looked at one by one: one of them may be in the stretch. Of an empty one this is so for a single address.
+    #[inline(always)]
+    fn may_have_of_word(self, address: u16) -> bool {
+        address.wrapping_sub(self.first).wrapping_add(1) <= self.length
+    }
+}
+
 /// The state but RAM and journal. R, T and the halted mark stand in one word as in a record, so that a record is made by copying.
 pub struct Cpu {
     pub registers: [u16; 16],
@@ -31,6 +64,8 @@ pub struct Cpu {
     pub rxd: u8,
     pub txd: u8,
     pub marks: u16,
+    /// Fixed at start, and in no record.
+    pub stretch: Stretch,
 }
 
 /// What an input wrote through memory: words 25, 26 and 27 of its record.
@@ -72,7 +107,7 @@ fn holds(opcode: u8, f: u16) -> bool {
 
 impl Cpu {
     /// The state after a reset.
-    pub fn reset() -> Cpu {
+    pub fn reset(stretch: Stretch) -> Cpu {
         Cpu {
             registers: [0; 16],
             csrs: [0; 6],
@@ -80,12 +115,13 @@ impl Cpu {
             rxd: 0,
             txd: 0,
             marks: T,
+            stretch,
         }
     }
 
     /// The state from the first 25 words of a record, or of the boundary's state.
     #[inline(always)]
-    pub fn from_words(words: &[u16; 32]) -> Cpu {
+    pub fn from_words(words: &[u16; 32], stretch: Stretch) -> Cpu {
         let [rxd, txd] = words[23].to_le_bytes();
         let mut cpu = Cpu {
             registers: [0; 16],
@@ -94,6 +130,7 @@ impl Cpu {
             rxd,
             txd,
             marks: words[24] & 7,
+            stretch,
         };
         cpu.registers.copy_from_slice(&words[..16]);
         cpu.csrs.copy_from_slice(&words[16..22]);
@@ -254,12 +291,12 @@ impl Cpu {
     fn store(&mut self, ram: &mut [u8], address: u16, word: u16) -> Effect {
         let at = usize::from(address);
         let old = match ram.get_mut(at..at + 2) {
-            Some(place) => {
+            Some(place) if !self.stretch.may_have_of_word(address) => {
                 let old = u16::from_le_bytes([place[0], place[1]]);
                 place.copy_from_slice(&word.to_le_bytes());
                 old
             }
-            None => self.store_by_bytes(ram, address, word),
+            _ => self.store_by_bytes(ram, address, word),
         };
         Effect {
             bus: 4,
@@ -343,8 +380,8 @@ impl Cpu {
         }
     }
 
-    /// A word that is not wholly in RAM, its lower address first; the old bytes of RAM. One byte may be in RAM and the other not, but
-    /// never the same byte twice, so writing the first does not disturb the old second.
+    /// A word that is not wholly in RAM, or of which a byte may be in the stretch, its lower address first; the old bytes of RAM. It is never the
+    /// same byte twice, so writing the first does not disturb the old second.
     #[cold]
     fn store_by_bytes(&mut self, ram: &mut [u8], address: u16, word: u16) -> u16 {
         let [low, high] = word.to_le_bytes();
@@ -353,10 +390,11 @@ impl Cpu {
         u16::from_le_bytes([first, second])
     }
 
-    /// Writes a byte and gives the old one, or 0 where it is not in RAM.
+    /// Writes a byte, unless it is one of RAM in the stretch, and gives the old one, or 0 where it is not in RAM.
     #[inline(always)]
     fn write_byte(&mut self, ram: &mut [u8], address: u16, byte: u8) -> u8 {
         match ram.get_mut(usize::from(address)) {
+            Some(place) if self.stretch.has(address) => *place,
             Some(place) => std::mem::replace(place, byte),
             None => {
                 self.write_device(address, byte);

@@ -11,7 +11,7 @@ pub mod pens;
 mod text;
 mod watch;
 
-use cpu::{Cpu, Effect, Written, EXC, F, HALTED, R, T};
+use cpu::{Cpu, Effect, Stretch, Written, EXC, F, HALTED, R, T};
 use pens::Pen;
 pub use text::{assemble, list};
 pub use watch::Entry;
@@ -52,17 +52,17 @@ impl Machine {
         if state[16] > 511 || held > slots || next >= slots.max(1) {
             return Err(3);
         }
-        let cpu = Cpu::from_words(state);
+        let cpu = Cpu::from_words(state, Stretch::new(state[30], state[31]));
         Ok(Machine { cpu, next, held })
     }
 
-    /// The machine as words.
+    /// The machine as words. Words 30 and 31, the stretch, are there still.
     #[inline(always)]
     fn close(&self, state: &mut State) {
         self.cpu.to_words(state);
         state[25] = self.next as u16;
         state[26] = self.held as u16;
-        state[27..].fill(0);
+        state[27..30].fill(0);
     }
 
     /// Writes the record of an input that comes next, in place. What a step writes through memory is known only afterwards and is put in
@@ -168,7 +168,7 @@ impl Machine {
                 }
             }
         }
-        self.cpu = Cpu::from_words(record);
+        self.cpu = Cpu::from_words(record, self.cpu.stretch);
         self.next = newest;
         self.held -= 1;
         Ok(0)
@@ -270,7 +270,7 @@ pub fn poke(state: &mut State, ram: &mut [u8], journal: &mut [u16], address: u16
 pub fn reset(state: &mut State, ram: &mut [u8], journal: &mut [u16]) -> u64 {
     call(state, ram, journal, |machine, _, journal| {
         machine.record(journal, Written::NOTHING);
-        machine.cpu = Cpu::reset();
+        machine.cpu = Cpu::reset(machine.cpu.stretch);
         Ok(0)
     })
 }

@@ -35,12 +35,12 @@ fn addresses(list: &[Entry], kind: u16) -> Vec<u16> {
     of_kind.map(|entry| entry[0]).collect()
 }
 
-/// Counts a hit of every entry of a kind at one of so many addresses from the first on; the place of the first such entry.
+/// Counts a hit of every entry of a kind at one of the addresses; the place of the first such entry.
 #[cold]
-fn hit(list: &mut [Entry], kind: u16, first: u16, count: u16) -> u64 {
+fn hit(list: &mut [Entry], kind: u16, is_met: impl Fn(u16) -> bool) -> u64 {
     let mut named = None;
     for (place, [address, its_kind, hits]) in list.iter_mut().enumerate() {
-        if *its_kind == kind && address.wrapping_sub(first) < count {
+        if *its_kind == kind && is_met(*address) {
             *hits = hits.saturating_add(1);
             named = named.or(Some(place as u64));
         }
@@ -51,7 +51,8 @@ fn hit(list: &mut [Entry], kind: u16, first: u16, count: u16) -> u64 {
 impl Machine {
     /// Steps until the budget is used up, the machine halts, a step wrote to a watched address, or pc is a break's address before a step
     /// that is not the first. The addresses of each kind are gathered once: a step looks through those of the breaks one by one, and through
-    /// those of the watches if it wrote. The list itself is gone through only when one of them is met.
+    /// those of the watches if it wrote. A watch on a byte of RAM that no store reaches is left out. The list itself is gone through only when an
+    /// entry is met.
     #[inline(never)]
     pub fn run_watched(
         &mut self,
@@ -60,7 +61,10 @@ impl Machine {
         list: &mut [Entry],
         budget: u16,
     ) -> u64 {
-        let (breaks, watches) = (addresses(list, BREAK), addresses(list, WATCH));
+        let (stretch, length) = (self.cpu.stretch, ram.len());
+        let is_reached = |at: u16| usize::from(at) >= length || !stretch.has(at);
+        let (breaks, mut watches) = (addresses(list, BREAK), addresses(list, WATCH));
+        watches.retain(|at| is_reached(*at));
         let (mut steps, mut bus) = (0u64, 0u64);
         let stop = loop {
             if self.is_halted() {
@@ -71,14 +75,15 @@ impl Machine {
             }
             let pc = self.cpu.registers[PC];
             if steps > 0 && breaks.contains(&pc) {
-                break BY_BREAK | hit(list, BREAK, pc, 1) << 2;
+                break BY_BREAK | hit(list, BREAK, |at| at == pc) << 2;
             }
             let effect = self.step(ram, journal);
             bus += u64::from(effect.bus);
             steps += 1;
             let (first, count) = (effect.written.first, effect.written.count);
-            if count > 0 && watches.iter().any(|at| at.wrapping_sub(first) < count) {
-                let place = hit(list, WATCH, first, count);
+            let is_written = |at: u16| at.wrapping_sub(first) < count;
+            if count > 0 && watches.iter().any(|at| is_written(*at)) {
+                let place = hit(list, WATCH, |at| is_written(at) && is_reached(at));
                 // A halt comes before a watch, whose hits are counted all the same.
                 break if self.is_halted() {
                     BY_HALT

@@ -30,7 +30,31 @@ pub struct Devices {
     pub t: bool,
 }
 
-/// The bytes that an input writes through memory, as a record keeps them.
+/// The addresses that instructions cannot write, change request Q-4: "a first
+/// and last protected address, fixed at start".
+#[derive(Clone, Copy, Debug, PartialEq, Eq)]
+pub struct Stretch {
+    /// The first protected address.
+    pub first: u16,
+    /// The last protected address.
+    pub last: u16,
+}
+
+impl Stretch {
+    /// "first above last means none"
+    pub const NONE: Stretch = Stretch { first: 1, last: 0 };
+
+    /// Whether a store to this address is dropped: "A store by an instruction
+    /// to a protected RAM byte is dropped". What is not RAM is stored to as
+    /// before.
+    pub fn drops(self, ram: &[u8], address: u16) -> bool {
+        let is_protected = self.first <= address && address <= self.last;
+        is_protected && usize::from(address) < ram.len()
+    }
+}
+
+/// The bytes that an input writes through memory, as a record keeps them. "Bus
+/// bytes and journal records count dropped bytes as before".
 #[derive(Clone, Copy, Debug, Default, PartialEq, Eq)]
 pub struct Written {
     /// "bytes written by the input, a store or a poke, through memory (0, 1,
@@ -38,7 +62,8 @@ pub struct Written {
     pub count: u16,
     /// "first address"; 0 if nothing is written.
     pub first: u16,
-    /// "old first byte + 256·old second (0 where not RAM or not written)"
+    /// "old first byte + 256·old second (0 where not RAM or not written)"; it
+    /// "keeps a dropped byte's old value as for one written"
     pub old: u16,
 }
 
@@ -75,10 +100,16 @@ impl Devices {
         u16::from_le_bytes([low, high])
     }
 
-    /// Writes one byte.
-    pub fn write_byte(&mut self, ram: &mut [u8], address: u16, byte: u8) -> Written {
+    /// Writes one byte, as an instruction does.
+    pub fn write_byte(
+        &mut self,
+        ram: &mut [u8],
+        stretch: Stretch,
+        address: u16,
+        byte: u8,
+    ) -> Written {
         let old = u16::from(ram_byte(ram, address));
-        self.put_byte(ram, address, byte);
+        self.put_byte(ram, stretch, address, byte);
         Written {
             count: 1,
             first: address,
@@ -86,14 +117,21 @@ impl Devices {
         }
     }
 
-    /// Writes one word: "A word is written lower address first, then the
-    /// next."
-    pub fn write_word(&mut self, ram: &mut [u8], address: u16, word: u16) -> Written {
+    /// Writes one word, as an instruction does: "A word is written lower
+    /// address first, then the next." Of a word with one protected byte "the
+    /// word's other byte still goes in".
+    pub fn write_word(
+        &mut self,
+        ram: &mut [u8],
+        stretch: Stretch,
+        address: u16,
+        word: u16,
+    ) -> Written {
         let next = address.wrapping_add(1);
         let old = u16::from_le_bytes([ram_byte(ram, address), ram_byte(ram, next)]);
         let [low, high] = word.to_le_bytes();
-        self.put_byte(ram, address, low);
-        self.put_byte(ram, next, high);
+        self.put_byte(ram, stretch, address, low);
+        self.put_byte(ram, stretch, next, high);
         Written {
             count: 2,
             first: address,
@@ -113,8 +151,11 @@ impl Devices {
         }
     }
 
-    /// Puts a byte where the address says.
-    fn put_byte(&mut self, ram: &mut [u8], address: u16, byte: u8) {
+    /// Puts a byte where the address says, unless it is dropped.
+    fn put_byte(&mut self, ram: &mut [u8], stretch: Stretch, address: u16, byte: u8) {
+        if stretch.drops(ram, address) {
+            return;
+        }
         match ram.get_mut(usize::from(address)) {
             Some(place) => *place = byte,
             None => self.write_register(address, byte),
@@ -194,7 +235,7 @@ mod tests {
         let mut devices = Devices::new();
         let mut ram = [0x11, 0x22];
         assert_eq!(devices.read_word(&ram, 0xffff), 0x1100);
-        let written = devices.write_word(&mut ram, 0xffff, 0xabcd);
+        let written = devices.write_word(&mut ram, Stretch::NONE, 0xffff, 0xabcd);
         assert_eq!(ram, [0xab, 0x22]);
         assert_eq!((written.count, written.first), (2, 0xffff));
         assert_eq!(written.old, 0x1100);
@@ -205,10 +246,10 @@ mod tests {
         let mut devices = Devices::new();
         let mut ram = [0x11, 0x22, 0x33];
         assert_eq!(devices.read_word(&ram, 2), 0x0033);
-        let written = devices.write_word(&mut ram, 2, 0xabcd);
+        let written = devices.write_word(&mut ram, Stretch::NONE, 2, 0xabcd);
         assert_eq!(ram, [0x11, 0x22, 0xcd]);
         assert_eq!(written.old, 0x0033);
-        let written = devices.write_word(&mut ram, 3, 0xabcd);
+        let written = devices.write_word(&mut ram, Stretch::NONE, 3, 0xabcd);
         assert_eq!(ram, [0x11, 0x22, 0xcd]);
         assert_eq!((written.count, written.first, written.old), (2, 3, 0));
         assert_eq!(devices, Devices::new());
@@ -217,9 +258,9 @@ mod tests {
     #[test]
     fn txd_is_stored_only_when_ready() {
         let mut devices = Devices::new();
-        devices.write_byte(&mut [], TXD, 0x42);
+        devices.write_byte(&mut [], Stretch::NONE, TXD, 0x42);
         assert_eq!((devices.txd, devices.t), (0x42, false));
-        let written = devices.write_byte(&mut [], TXD, 0x43);
+        let written = devices.write_byte(&mut [], Stretch::NONE, TXD, 0x43);
         assert_eq!((devices.txd, devices.t), (0x42, false));
         assert_eq!((written.count, written.first, written.old), (1, TXD, 0));
     }
@@ -227,7 +268,7 @@ mod tests {
     #[test]
     fn writing_rxd_acknowledges_and_keeps_the_byte() {
         let mut devices = busy();
-        devices.write_byte(&mut [], RXD, 0x99);
+        devices.write_byte(&mut [], Stretch::NONE, RXD, 0x99);
         assert_eq!((devices.rxd, devices.r), (0x5a, false));
     }
 
@@ -235,7 +276,7 @@ mod tests {
     fn a_word_at_txd_reaches_rxd_too() {
         let mut devices = busy();
         devices.t = true;
-        devices.write_word(&mut [], TXD, 0x1234);
+        devices.write_word(&mut [], Stretch::NONE, TXD, 0x1234);
         assert_eq!((devices.txd, devices.t), (0x34, false));
         assert_eq!((devices.rxd, devices.r), (0x5a, false));
     }
@@ -244,7 +285,7 @@ mod tests {
     fn a_word_before_txd_gives_it_the_upper_byte() {
         let mut devices = Devices::new();
         let mut ram = [0; 65_504];
-        devices.write_word(&mut ram, 0xffdf, 0x1234);
+        devices.write_word(&mut ram, Stretch::NONE, 0xffdf, 0x1234);
         assert_eq!(ram[0xffdf], 0x34);
         assert_eq!((devices.txd, devices.t), (0x12, false));
     }
@@ -254,7 +295,7 @@ mod tests {
         let mut devices = busy();
         for address in 0..=u16::MAX {
             if address != TXD && address != RXD {
-                devices.write_byte(&mut [], address, 0xee);
+                devices.write_byte(&mut [], Stretch::NONE, address, 0xee);
             }
         }
         assert_eq!(devices, busy());

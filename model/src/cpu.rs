@@ -4,7 +4,7 @@
 //! `d` is the number of its `dstr`, `s` of its `srcr`.
 
 use crate::alu;
-use crate::bus::{Devices, Written};
+use crate::bus::{Devices, Stretch, Written};
 use crate::opcode;
 
 #[cfg(test)]
@@ -43,13 +43,16 @@ pub struct Cpu {
     pub devices: Devices,
     /// The halted mark.
     pub halted: bool,
+    /// The protected addresses, "fixed at start": nothing changes them.
+    pub stretch: Stretch,
 }
 
 /// What a step does beside changing the state.
 #[derive(Clone, Copy, Debug, PartialEq, Eq)]
 pub struct Effect {
     /// "Bus bytes are 2 plus the bytes loaded or stored, ignored writes
-    /// counted too: 2 to 4"; 0 where an interrupt is taken.
+    /// counted too: 2 to 4", dropped ones as well; 0 where an interrupt is
+    /// taken.
     pub bus: u16,
     /// The bytes written through memory.
     pub written: Written,
@@ -75,12 +78,13 @@ impl Effect {
 
 impl Cpu {
     /// "registers, CSRs, clock, RXD, TXD are 0; R=0, T=1; not halted"
-    pub fn new() -> Cpu {
+    pub fn new(stretch: Stretch) -> Cpu {
         Cpu {
             registers: [0; 16],
             csrs: [0; 6],
             devices: Devices::new(),
             halted: false,
+            stretch,
         }
     }
 
@@ -305,15 +309,16 @@ impl Cpu {
     /// "Writes the value in register `srcr` (one word, two bytes) to memory at
     /// the address in register `dstr`."
     fn sto(&mut self, ram: &mut [u8], d: usize, s: usize) -> Effect {
-        let address = self.registers[d];
-        Effect::storing(self.devices.write_word(ram, address, self.registers[s]))
+        let (address, word) = (self.registers[d], self.registers[s]);
+        Effect::storing(self.devices.write_word(ram, self.stretch, address, word))
     }
 
     /// "Writes the lower byte of register `srcr` to memory at the address in
     /// register `dstr`."
     fn stob(&mut self, ram: &mut [u8], d: usize, s: usize) -> Effect {
+        let address = self.registers[d];
         let [low, _] = self.registers[s].to_le_bytes();
-        Effect::storing(self.devices.write_byte(ram, self.registers[d], low))
+        Effect::storing(self.devices.write_byte(ram, self.stretch, address, low))
     }
 
     /// "Decrements the value in register `dstr` by 2 and then writes the value

@@ -3,7 +3,7 @@
 //! "Journal: lent 16-bit words, a multiple of 32, 0 to 32,768; one record is
 //! 32 words."
 
-use crate::bus::Written;
+use crate::bus::{Stretch, Written};
 use crate::cpu::Cpu;
 
 /// The words of one record.
@@ -45,9 +45,10 @@ pub fn is_bad(record: &[u16]) -> bool {
         || record[ZERO..RECORD].iter().any(|word| *word != 0)
 }
 
-/// The state of a record that is not bad, and the bytes that were written.
-pub fn decode(record: &[u16]) -> (Cpu, Written) {
-    let mut cpu = Cpu::new();
+/// The state of a record that is not bad, and the bytes that were written. No
+/// record holds the protected addresses: they are the machine's.
+pub fn decode(record: &[u16], stretch: Stretch) -> (Cpu, Written) {
+    let mut cpu = Cpu::new(stretch);
     cpu.registers.copy_from_slice(&record[..16]);
     cpu.csrs.copy_from_slice(&record[16..22]);
     cpu.devices.clock = record[22];
@@ -71,7 +72,10 @@ mod tests {
 
     /// A state in which everything differs.
     fn state() -> Cpu {
-        let mut cpu = Cpu::new();
+        let mut cpu = Cpu::new(Stretch {
+            first: 0x4000,
+            last: 0x4001,
+        });
         for number in 0..16 {
             cpu.registers[number] = 0x1000 + number as u16;
         }
@@ -113,7 +117,7 @@ mod tests {
             cpu.halted = marks / 4 == 1;
             let record = encode(&cpu, &written());
             assert_eq!(record[24], marks);
-            assert_eq!(decode(&record), (cpu, written()));
+            assert_eq!(decode(&record, cpu.stretch), (cpu, written()));
         }
     }
 

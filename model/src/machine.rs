@@ -5,7 +5,7 @@
 //! and changes no lent byte or word. A call on the machine checks 1, 2, 3,
 //! then its own in the order shown."
 
-use crate::bus::{self, Written};
+use crate::bus::{self, Stretch, Written};
 use crate::cpu::{Cpu, Effect, EXC, F, H};
 use crate::journal::{self, LONGEST, RECORD};
 
@@ -117,10 +117,11 @@ impl Answer {
 }
 
 impl Machine {
-    /// "The starting state is this one with next slot and records held 0."
-    pub fn new() -> Machine {
+    /// "The starting state is this one with next slot and records held 0." The
+    /// protected addresses are "fixed at start".
+    pub fn new(stretch: Stretch) -> Machine {
         Machine {
-            cpu: Cpu::new(),
+            cpu: Cpu::new(stretch),
             next: 0,
             held: 0,
         }
@@ -232,7 +233,8 @@ impl Machine {
             Call::Sent => sent(&mut self.cpu),
             Call::SetRegister(number, word) => set_register(&mut self.cpu, number, word),
             Call::Poke(address, byte) => return poke(ram, address, byte),
-            Call::Reset => self.cpu = Cpu::new(),
+            // a reset keeps the protected addresses
+            Call::Reset => self.cpu = Cpu::new(self.cpu.stretch),
             Call::Step | Call::Run(_) | Call::StepBack => unreachable!("performed elsewhere"),
         }
         Written::default()
@@ -269,9 +271,10 @@ impl Machine {
     /// "A step-back restores the newest record's state and, of the one or two
     /// bytes that word 25 counts (the second address is the first plus 1
     /// modulo 65,536), those in RAM; it moves next slot back (from 0 to the
-    /// last), lowers held by one and leaves the journal's words."
+    /// last), lowers held by one and leaves the journal's words." It keeps the
+    /// protected addresses, and is among those that "still write there".
     fn step_back(&mut self, ram: &mut [u8], journal: &[u16]) {
-        let (cpu, written) = journal::decode(self.newest(journal));
+        let (cpu, written) = journal::decode(self.newest(journal), self.cpu.stretch);
         self.cpu = cpu;
         self.next = self.newest_slot(journal);
         self.held -= 1;
@@ -327,7 +330,8 @@ fn set_register(cpu: &mut Cpu, number: u8, word: u16) {
     }
 }
 
-/// "Poke: one byte at a RAM address."
+/// "Poke: one byte at a RAM address." It is among those that "still write
+/// there", in the protected stretch.
 fn poke(ram: &mut [u8], address: u16, byte: u8) -> Written {
     let old = u16::from(bus::ram_byte(ram, address));
     put_in_ram(ram, address, byte);

@@ -21,13 +21,17 @@ use std::io::{self, Read, Write};
 use std::path::Path;
 use std::process::ExitCode;
 
+use bus::Stretch;
 use night::Night;
 use pens::{Lists, Setup};
 use vectors::{calls, images, isa, lines, nights, steps};
 
 const USAGE: &str = "usage: model isa-input | isa-output | text-input | text-output | steps-input | steps-output | \
                      calls-input | calls-output | listing | listing-case K | pen-lists SEED DIR | \
-                     night RAM SLOTS FIRMWARE PENS TODAY LASTGOOD WORD..";
+                     night [--protect FIRST LAST] RAM SLOTS FIRMWARE PENS TODAY LASTGOOD WORD..";
+
+/// The option of `night`.
+const PROTECT: &str = "--protect";
 
 /// The status when there is no such case.
 const NO_CASE: u8 = 1;
@@ -49,9 +53,7 @@ fn main() -> ExitCode {
         ["listing"] => list_standard_input(),
         ["listing-case", number] => write_case(number),
         ["pen-lists", seed, folder] => write_lists(seed, Path::new(folder)),
-        ["night", ram, slots, firmware, pens, today, last_good, words @ ..] => {
-            write_night([ram, slots], [firmware, pens, today, last_good], words)
-        }
+        ["night", arguments @ ..] => write_night(arguments),
         _ => failed(USAGE),
     }
 }
@@ -91,14 +93,33 @@ fn write_lists(seed: &str, folder: &Path) -> ExitCode {
     }
 }
 
+/// Takes the protected addresses out of the arguments, wherever they stand:
+/// none where they are not given.
+fn take_stretch(arguments: &mut Vec<&str>) -> Option<Stretch> {
+    let Some(place) = arguments.iter().position(|one| *one == PROTECT) else {
+        return Some(Stretch::NONE);
+    };
+    let first = arguments.get(place + 1)?.parse().ok()?;
+    let last = arguments.get(place + 2)?.parse().ok()?;
+    arguments.drain(place..place + 3);
+    Some(Stretch { first, last })
+}
+
 /// Writes what the pen bench prints for files: by so many bytes of RAM and
 /// slots, and by the words of a setup.
-fn write_night(sizes: [&str; 2], names: [&str; 4], words: &[&str]) -> ExitCode {
-    let sizes: Result<Vec<usize>, _> = sizes.iter().map(|size| size.parse()).collect();
-    let words: Result<Vec<u16>, _> = words.iter().map(|word| word.parse()).collect();
-    let (Ok(sizes), Ok(words)) = (sizes, words) else {
+fn write_night(arguments: &[&str]) -> ExitCode {
+    let mut arguments = arguments.to_vec();
+    let stretch = take_stretch(&mut arguments);
+    let [ram, slots, firmware, pens, today, last_good, words @ ..] = arguments.as_slice() else {
         return failed(USAGE);
     };
+    let words: Result<Vec<u16>, _> = words.iter().map(|word| word.parse()).collect();
+    let (Some(stretch), Ok(ram), Ok(slots), Ok(words)) =
+        (stretch, ram.parse(), slots.parse(), words)
+    else {
+        return failed(USAGE);
+    };
+    let names = [firmware, pens, today, last_good];
     let files: io::Result<Vec<Vec<u8>>> = names.iter().map(fs::read).collect();
     let files = match files {
         Ok(files) => files,
@@ -108,8 +129,9 @@ fn write_night(sizes: [&str; 2], names: [&str; 4], words: &[&str]) -> ExitCode {
         return failed("the firmware has no header");
     };
     write(&night::output(&Night {
-        ram: sizes[0],
-        slots: sizes[1],
+        ram,
+        slots,
+        stretch,
         firmware: (start as u16, bytes),
         pens: &files[1],
         lists: Lists {

@@ -1,6 +1,7 @@
 //! The overnight pen bench as a function, from its files to its whole standard
 //! output: "the whole day's pen list run through the firmware overnight".
 
+use crate::bus::Stretch;
 use crate::journal::RECORD;
 use crate::machine::Machine;
 use crate::pens::{self, Lists, Matched, Setup};
@@ -12,6 +13,8 @@ pub struct Night<'a> {
     pub ram: usize,
     /// The slots of the journal.
     pub slots: usize,
+    /// The protected addresses.
+    pub stretch: Stretch,
     /// Where the firmware is in RAM, and its bytes.
     pub firmware: (u16, &'a [u8]),
     /// "pen numbers, one decimal a line"
@@ -25,7 +28,7 @@ pub struct Night<'a> {
 /// The output: a line for each pen. "State and RAM go on from pen to pen; a
 /// refused pen touches neither and the next pen follows."
 pub fn output(night: &Night) -> Vec<u8> {
-    let mut machine = Machine::new();
+    let mut machine = Machine::new(night.stretch);
     let mut ram = loaded(night);
     let mut journal = vec![0; RECORD * night.slots];
     let mut output = Vec::new();
@@ -85,6 +88,7 @@ mod tests {
         let night = Night {
             ram: 50,
             slots: 2,
+            stretch: Stretch::NONE,
             firmware: (0x10, &FIRMWARE),
             pens: pens.as_bytes(),
             lists: Lists { today, last_good },
@@ -119,6 +123,7 @@ mod tests {
         let night = Night {
             ram: 50,
             slots: 0,
+            stretch: Stretch::NONE,
             firmware: (0, &FIRMWARE[4..]),
             pens: b"1\n2\n",
             lists: Lists {
@@ -129,6 +134,35 @@ mod tests {
         };
         let told = String::from_utf8(output(&night)).expect("the names are UTF-8");
         assert_eq!(told, expected.replacen("\t0\t0\t", "\t1\t2\t", 1));
+    }
+
+    /// "Poke [...] still write there": names are in the protected stretch. What
+    /// the routine stores there is dropped.
+    #[test]
+    fn a_protected_stretch() {
+        // `ddsto r1, r2`, `ld r0, r1`
+        let firmware = [0x17, 0x12, 0x0a, 0x01];
+        let setup = Setup::of_words(&[40, 0x14, 9, 1, 42, 2, 0x7878, 15, 0x10]);
+        let told = |first, last| {
+            let night = Night {
+                ram: 50,
+                slots: 2,
+                stretch: Stretch { first, last },
+                firmware: (0x10, &firmware),
+                pens: b"1\n",
+                lists: Lists {
+                    today: b"1\tab\n",
+                    last_good: b"",
+                },
+                setup: &setup,
+            };
+            String::from_utf8(output(&night)).expect("the names are UTF-8")
+        };
+        let expected = |r0: &str| format!("1\t{r0}\tstop\t2\t8\tab\n");
+        assert_eq!(told(1, 0), expected("7878"));
+        assert_eq!(told(0, 40), expected("7861"));
+        assert_eq!(told(41, 41), expected("6278"));
+        assert_eq!(told(40, 0xffff), expected("6261"));
     }
 
     #[test]

@@ -17,6 +17,7 @@ mod programs;
 mod script;
 pub mod steps;
 mod stops;
+mod stretches;
 mod walks;
 pub mod watches;
 

@@ -124,7 +124,7 @@ fn perform(
     let mut told = Told::nothing_done(0);
     let mut stored = Written::default();
     loop {
-        let matches = matches(machine, list, &stored, told.steps);
+        let matches = matches(machine, ram, list, &stored, told.steps);
         if let Some(stop) = stop(machine.cpu.halted, &matches, told.steps == budget) {
             mark(list, stop, &matches);
             return Told { stop, ..told };
@@ -138,10 +138,12 @@ fn perform(
 
 /// The entries that match after so many steps, of which the last one stored
 /// these bytes.
-fn matches(machine: &Machine, list: &[Entry], stored: &Written, steps: u16) -> Matches {
+fn matches(machine: &Machine, ram: &[u8], list: &[Entry], stored: &Written, steps: u16) -> Matches {
     let pc = machine.cpu.registers[PC];
+    // "a byte dropped under Q-4 is no hit, an ignored one is"
+    let is_hit = |at| is_stored(stored, at) && !machine.cpu.stretch.drops(ram, at);
     Matches {
-        watches: places(list, |e| e.kind == WATCH && is_stored(stored, e.address)),
+        watches: places(list, |e| e.kind == WATCH && is_hit(e.address)),
         breaks: places(list, |e| e.kind == BREAK && steps > 0 && e.address == pc),
     }
 }

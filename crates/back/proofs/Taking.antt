@@ -11,18 +11,19 @@ use lib.Dec.{leb, ltb, eqb}
 use lib.ListN.{length}
 use Rattle.bus.specs.State.{word}
 use Rattle.bus.specs.declared.state.Cpu.{Cpu}
+use Rattle.bus.specs.declared.state.Stretch.{Stretch}
 use Rattle.history.specs.Undo.{restored}
 use Rattle.history.specs.Trace.{Box, Undo, no-run, answers, back, backed}
-use Rattle.history.specs.Ring.{Ring, ringOf, slotBefore, slotWords, popped, poppedAt, slots, ring}
+use Rattle.history.specs.Ring.{Ring, ringOf, slotBefore, slotWords, popped, poppedAt, slots}
 use Rattle.history.specs.Code.{readable, newestOf}
 use Rattle.history.specs.declared.Place.{Place}
 use Rattle.history.specs.declared.TakenBack.{TakenBack}
 use Rattle.history.proofs.Copying.{before-below}
-use Rattle.records.specs.Record.{recordOf, undoFrom, sound, decoded}
+use Rattle.records.specs.Record.{undoFrom, sound, decoded}
 use Rattle.records.specs.Code.{undoAs}
 use Rattle.records.specs.declared.Before.{Before}
 use Rattle.calls.specs.Inputs.{box, machine}
-use Rattle.calls.specs.Calls.{W, ramFits, journalFits, stateFits, firstOf, checkOf, plainOf, worldOf, replied}
+use Rattle.calls.specs.Calls.{W, ramFits, journalFits, stateFits, firstOf, checkOf, journalOf, plainOf, worldOf, replied}
 use Rattle.calls.specs.Code.{refuse}
 use Rattle.calls.specs.declared.state.Machine.{Machine as MachineT}
 use Rattle.calls.specs.declared.state.Refusal.the-variants as Refusal
@@ -83,13 +84,16 @@ module _ (m : MachineT) (ram ws : List ℕ) where
   abbrev v : W
   v = worldOf m ram ws
 
+  abbrev p : Stretch
+  p = m .cpu .board .stretch
+
   pub none-held : (r : Reply) → m .held ≡ 0 → r ≡ refuse m Refusal.NoRecord → plainOf back v ≡ replied r ram ws
   none-held r h s =
-      ap (λ (x : ℕ). backed machine (ring recordOf decoded) v (poppedAt decoded (slotBefore (slots ws) (m .next)) x (ringOf ws (m .next) (m .held)))) h
+      ap (λ (x : ℕ). backed machine (journalOf p) v (poppedAt (decoded p) (slotBefore (slots ws) (m .next)) x (ringOf ws (m .next) (m .held)))) h
       ∙ ap (λ (x : Reply). replied x ram ws) (sym s)
 
   -- what the journal hands back, where a record is held
-  pops : (n : ℕ) (k : ℕ) (x : Option (Undo Cpu)) (j : Ring) → 0 < n → decoded (slotWords (j .words) k) ≡ x → poppedAt decoded k n j ≡ popped k x j
+  pops : (n : ℕ) (k : ℕ) (x : Option (Undo Cpu)) (j : Ring) → 0 < n → decoded p (slotWords (j .words) k) ≡ x → poppedAt (decoded p) k n j ≡ popped k x j
   pops zero k x j h e = absurd (omega arith)
   pops (suc n) k x j h e = ap (λ (y : Option (Undo Cpu)). popped k y j) e
 
@@ -102,16 +106,16 @@ module _ (m : MachineT) (ram ws : List ℕ) where
     unfolding readable
     here = ap (λ (y : TakenBack). y .words) e ∙ rw (lt-ltb k (slots ws) l)
 
-    popping : (x : Option (Undo Cpu)) → decoded (q .words) ≡ x
-        → plainOf back v ≡ backed machine (ring recordOf decoded) v (popped k x (ringOf ws (m .next) (m .held)))
+    popping : (x : Option (Undo Cpu)) → decoded p (q .words) ≡ x
+        → plainOf back v ≡ backed machine (journalOf p) v (popped k x (ringOf ws (m .next) (m .held)))
     popping x d =
-        ap (backed machine (ring recordOf decoded) v) (pops (m .held) k x (ringOf ws (m .next) (m .held)) h (ap decoded (sym here) ∙ d))
+        ap (backed machine (journalOf p) v) (pops (m .held) k x (ringOf ws (m .next) (m .held)) h (ap (decoded p) (sym here) ∙ d))
 
     pub unsound : (r : Reply) (t : Bool) → t ≡ sound (q .words) → t ≡ false → r ≡ refuse m Refusal.BadRecord → plainOf back v ≡ replied r ram ws
     unfolding decoded
     unsound r t f z s = popping none (rw (sym f ∙ z)) ∙ ap (λ (x : Reply). replied x ram ws) (sym s)
 
-    pub restores : (t : Bool) (b : Before) (ram′ : List ℕ) → t ≡ sound (q .words) → t ≡ true → undoFrom (q .words) ≡ undoAs b
+    pub restores : (t : Bool) (b : Before) (ram′ : List ℕ) → t ≡ sound (q .words) → t ≡ true → undoFrom p (q .words) ≡ undoAs b
         → ram′ ≡ restored (b .count) (b .first) (b .low) (b .high) ram
         → plainOf back v ≡ answers 0 0 0 no-run (at (box (b .cpu) ram′) (ringOf ws (q .place .next) (q .place .held)))
     unfolding decoded

@@ -27,7 +27,9 @@ pub fn step_back(m: Machine, ram: &mut [u8], journal: &[u16]) -> Reply
     );
     let words = newest.words;
     if records::is_sound(words) {
-        let b = records::decode(words);
+        let before = m.cpu;
+        let board = before.board;
+        let b = records::decode(words, board.stretch);
         undo::restore(ram, b.count, b.first, b.low, b.high);
         let c = b.cpu;
         let p = newest.place;

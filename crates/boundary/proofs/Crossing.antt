@@ -22,17 +22,22 @@ use Rattle.calls.specs.declared.state.Refusal.the-variants as Refusal
 use Rattle.calls.specs.declared.state.Answer.{Answer}
 use Rattle.calls.specs.declared.state.Answer.the-variants.{Accepted, Stepped, Ran, Refused}
 use Rattle.calls.specs.declared.state.Reply.{Reply}
-use Rattle.boundary.specs.Boundary.{taken, given, packed, causeNumber, resultOf, Crossed, leaves, crossed, Crosses}
+use Rattle.boundary.specs.Boundary.{stretchIn, taken, givenBut, given, packed, causeNumber, resultOf, Crossed, leaves, crossed, Crosses}
 
 -- the machine in the words of a record
-pub takes : (w : List ℕ) (b : Before) → undoFrom w ≡ undoAs b → record { cpu = b .cpu; next = b .count; held = b .first } ≡ taken w
+pub takes : (w : List ℕ) (b : Before) → undoFrom (stretchIn w) w ≡ undoAs b → record { cpu = b .cpu; next = b .count; held = b .first } ≡ taken w
 unfolding undoFrom
 takes w b e = sym (ap (λ (u : Undo Cpu). record { cpu = u .cpu; next = u .count; held = u .first }) e)
 
 -- next slot in the place of the bytes written
-pub writes : (c : Cpu) (next held : ℕ) (r : List ℕ) → r ≡ recordWith c 0 (lowAt 16 held) 0 → set r 25 (lowAt 16 next) ≡ given c next held
+pub writes : (c : Cpu) (next held : ℕ) (r : List ℕ) → r ≡ recordWith c 0 (lowAt 16 held) 0 → set r 25 (lowAt 16 next) ≡ givenBut c next held
 unfolding recordWith
 writes c next held r e = ap (λ (y : List ℕ). set y 25 (lowAt 16 next)) e
+
+-- and then the protected addresses
+pub ends : (c : Cpu) (next held : ℕ) (r : List ℕ) → r ≡ givenBut c next held → let p = c .board .stretch in set (set r 30 (p .first)) 31 (p .last) ≡ given c next held
+unfolding given
+ends c next held r e = let p = c .board .stretch in ap (λ (y : List ℕ). set (set y 30 (p .first)) 31 (p .last)) e
 
 twice : (x : Bool) → not (not x) ≡ x
 twice true = refl

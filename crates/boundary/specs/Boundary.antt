@@ -8,6 +8,7 @@ use lib.ListN.{replicate, set}
 use Rattle.word.specs.Word.{lowAt}
 use Rattle.bus.specs.State.{word}
 use Rattle.bus.specs.declared.state.Cpu.{Cpu}
+use Rattle.bus.specs.declared.state.Stretch.{Stretch}
 use Rattle.history.specs.Trace.{Cause, no-run, budget, stopped, Answer, Call}
 use Rattle.history.specs.Ring.{Ring}
 use Rattle.records.specs.Record.{undoFrom, recordWith}
@@ -16,18 +17,26 @@ use Rattle.calls.specs.Calls.{answerOf, worldOf}
 use Rattle.calls.specs.declared.state.Machine.{Machine}
 use Rattle.text.specs.Answer.{Answer as TextAnswer}
 
--- "The starting state is all words 0 but word 24, which is 2 (T=1)."
-abbrev pub startWords : List ℕ
-startWords = set (replicate 32 0) 24 2
+-- "The starting state is all words 0 but word 24, which is 2 (T=1), and words 30 and 31"
+abbrev pub startWords : Stretch → List ℕ
+startWords p = set (set (set (replicate 32 0) 24 2) 30 (p .first)) 31 (p .last)
+
+-- Q-4: "state words 30 and 31 are the first and the last protected address"
+abbrev pub stretchIn : List ℕ → Stretch
+stretchIn w = record { first = word w 30; last = word w 31 }
 
 -- "0–15 registers; 16–21 csr0–csr5; 22 clock; 23 RXD + 256·TXD; 24 R + 2·T + 4·halted (a number over 7 counts modulo 8)": as a journal record has
--- them; "25 next slot; 26 records held; 27–31 .. not read"
+-- them; "25 next slot; 26 records held; 27–29 .. not read"
 abbrev pub taken : List ℕ → Machine
-taken w = record { cpu = undoFrom w .cpu; next = word w 25; held = word w 26 }
+taken w = record { cpu = undoFrom (stretchIn w) w .cpu; next = word w 25; held = word w 26 }
 
--- "27–31 written as 0"; next slot and records held are at most 1,024, so that their words hold them whole
-abbrev pub given : Cpu → ℕ → ℕ → List ℕ
-given c next held = recordWith c (lowAt 16 next) (lowAt 16 held) 0
+-- "27–29 .. written as 0"; next slot and records held are at most 1,024, so that their words hold them whole
+abbrev pub givenBut : Cpu → ℕ → ℕ → List ℕ
+givenBut c next held = recordWith c (lowAt 16 next) (lowAt 16 held) 0
+
+-- words 30 and 31 "read, and given back as they came", since no call changes the protected addresses
+unfoldable pub given : Cpu → ℕ → ℕ → List ℕ
+given c next held = let p = c .board .stretch in set (set (givenBut c next held) 30 (p .first)) 31 (p .last)
 
 -- "bits 0–15 the refusal's number (0: accepted); bits 16–31 the steps of a run; bits 32–55 bus bytes (step and run); bits 56–63 a run's cause"
 unfoldable pub packed : ℕ → ℕ → ℕ → ℕ → ℕ

@@ -9,9 +9,10 @@ use lib.ListN.{length, set, length-set, replicate}
 use Rattle.word.specs.Word.{above}
 use Rattle.word.proofs.Width.{low-below, high-below, join-below}
 use Rattle.bus.specs.State.{word, reset}
-use Rattle.bus.specs.Addresses.{deviceByte, byteAt, wordAt, deviceAfter, Bus, putByte, putWord}
+use Rattle.bus.specs.Addresses.{deviceByte, byteAt, wordAt, deviceAfter, dropped, Bus, putByte, putWord}
 use Rattle.bus.specs.Good.{Within, GoodRegs, GoodCsrs, GoodDevices, GoodBoard, Good}
 use Rattle.bus.specs.declared.state.Devices.{Devices}
+use Rattle.bus.specs.declared.state.Stretch.{Stretch}
 
 -- what holds of both holds of the one that a test picks
 pub picked : {A : Type 0} (P : A → Type 0) (t : Bool) {x y : A} → P x → P y → P (cond t x y)
@@ -91,17 +92,18 @@ devices-after {v} a {b} r h =
 pub byte-put : {u : Bus} (a : ℕ) {b : ℕ} → GoodBus u → b < 2 ^ 8 → GoodBus (putByte u a b)
 unfolding putByte
 byte-put {u} a r h =
-    picked GoodBus (ltb a (length (u .ram))) (record { board = r .board; ram = within-set 8 a (r .ram) h })
-    (record { board = record { devices = devices-after a (r .board .devices) h }; ram = r .ram })
+    picked GoodBus (dropped (u .board .stretch) (length (u .ram)) a) r
+    (picked GoodBus (ltb a (length (u .ram))) (record { board = r .board; ram = within-set 8 a (r .ram) h })
+    (record { board = record { devices = devices-after a (r .board .devices) h }; ram = r .ram }))
 
 pub word-put : {u : Bus} (a : ℕ) {w : ℕ} → GoodBus u → w < 2 ^ 16 → GoodBus (putWord u a w)
 unfolding putWord
 word-put a {w} r h = byte-put (above a) (byte-put a r (low-below 8 w)) (high-below 8 8 h)
 
 -- the starting state is good
-pub reset-good : Good reset
+pub reset-good : (p : Stretch) → Good (reset p)
 unfolding reset
-reset-good = record {
+reset-good p = record {
   regs = record { long = refl; words = record { at = zeros 16 } };
   csrs = record { long = refl; words = record { at = zeros 6 }; csr0 = omega arith };
   board = record { devices = record { clock = omega arith; rxd = omega arith; txd = omega arith } };

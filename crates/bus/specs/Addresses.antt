@@ -1,14 +1,15 @@
 -- "Addresses": RAM below its length, the device registers, and nothing else.
-use mathlib.Core.Bool.{false, cond}
+use mathlib.Core.Bool.{Bool, false, cond, _&&_}
 use mathlib.Core.List.{List}
 use Prim.Native.Nat.{ℕ, _+_}
-use lib.Dec.{ltb, eqb}
+use lib.Dec.{ltb, leb, eqb}
 use lib.ListN.{length, set}
 use Rattle.word.specs.Word.{above, joinAt, lowAt, highAt}
 use Rattle.word.specs.Memory.{byteIn}
 use Rattle.bus.specs.State.{devices, withDevices}
 use Rattle.bus.specs.declared.state.Board.{Board}
 use Rattle.bus.specs.declared.state.Devices.{Devices}
+use Rattle.bus.specs.declared.state.Stretch.{Stretch}
 
 -- "0xffe0 TXD (reads 0), 0xffe1 RXD, 0xffe2 READY (R in bit 0, T in bit 1), 0xfff0/0xfff1 clock low/high. Anything else reads 0"
 unfoldable pub deviceByte : Devices → ℕ → ℕ
@@ -47,11 +48,21 @@ pub record Bus : Type 0 where
 abbrev pub bus : Board → List ℕ → Bus
 bus b m = record { board = b; ram = m }
 
+-- Q-4: "a first and last protected address ..; first above last means none": then no address is from the first to the last
+abbrev pub protects : Stretch → ℕ → Bool
+protects p a = leb (p .first) a && leb a (p .last)
+
+-- "A store by an instruction to a protected RAM byte is dropped", where RAM has n bytes; a device in the stretch is no RAM byte
+unfoldable pub dropped : Stretch → ℕ → ℕ → Bool
+dropped p n a = ltb a n && protects p a
+
+-- what a byte stored by an instruction leaves: nothing else than what was there, where it is dropped
 unfoldable pub putByte : Bus → ℕ → ℕ → Bus
 putByte u a x =
-    cond (ltb a (length (u .ram))) (bus (u .board) (set (u .ram) a x))
-    (bus (withDevices (u .board) (deviceAfter (u .board .devices) a x)) (u .ram))
+    cond (dropped (u .board .stretch) (length (u .ram)) a) u
+    (cond (ltb a (length (u .ram))) (bus (u .board) (set (u .ram) a x))
+    (bus (withDevices (u .board) (deviceAfter (u .board .devices) a x)) (u .ram)))
 
--- "A word is written lower address first, then the next."
+-- "A word is written lower address first, then the next."; Q-4: "the word's other byte still goes in"
 unfoldable pub putWord : Bus → ℕ → ℕ → Bus
 putWord u a w = putByte (putByte u a (lowAt 8 w)) (above a) (highAt 8 w)

@@ -1,11 +1,12 @@
 // Addresses: RAM below its length, the device registers, and nothing else.
 use crate::state::Board;
 use crate::state::Devices;
+use crate::state::Stretch;
 use word::choice;
 use word::halves;
 use word::sums;
 ghost use mathlib.Core.Path.{_≡_};
-ghost use Rattle.bus.specs.Addresses.{deviceByte, byteAt, wordAt, deviceAfter, bus, putByte, putWord};
+ghost use Rattle.bus.specs.Addresses.{deviceByte, byteAt, wordAt, deviceAfter, dropped, bus, putByte, putWord};
 
 const TXD: u16 = 0xffe0;
 
@@ -70,9 +71,20 @@ fn device_after(v: Devices, a: u16, b: u8) -> Devices
     u
 }
 
+// Whether a store by an instruction to this address is dropped, where RAM has so many bytes.
+pub fn drops(p: Stretch, ram: usize, a: u16) -> bool
+    ensures { λ r. ⌜ r ≡ dropped p ram a ⌝ }
+{
+    ((a as usize) < ram) & ((p.first <= a) & (a <= p.last))
+}
+
 pub fn write_byte(b: Board, ram: &mut [u8], a: u16, x: u8) -> Board
     ensures { λ r. ⌜ bus r (now (ram .exit)) ≡ putByte (bus b (now (ram .entry))) a x ⌝ }
 {
+    let p = b.stretch;
+    if drops(p, ram.len(), a) {
+        return b;
+    }
     let i = a as usize;
     if i < ram.len() {
         ram[i] = x;

@@ -75,13 +75,16 @@ fn left(h: u64, m: Machine) -> u64 {
     let csrs = c.csrs;
     let b = c.board;
     let v = b.devices;
+    let p = b.stretch;
     let g = words(h, &regs);
     let k = words(g, &csrs);
     let clock = report::absorb(k, v.clock);
     let keyboard = report::absorb(clock, halves::join(v.rxd, v.txd));
     let bits = report::absorb(keyboard, marks(b));
     let next = report::absorb(bits, (m.next % 65536) as u16);
-    report::absorb(next, (m.held % 65536) as u16)
+    let held = report::absorb(next, (m.held % 65536) as u16);
+    let first = report::absorb(held, p.first);
+    report::absorb(first, p.last)
 }
 
 pub fn called(h: u64, answer: Answer, m: Machine) -> u64 {

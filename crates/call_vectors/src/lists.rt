@@ -1,4 +1,4 @@
-// The list of watched runs. Kinds 21 to 23 arrange it; above 23 they do nothing.
+// The list of watched runs. Kinds 21 to 23 arrange it.
 use crate::commands::Command;
 use crate::state::Desk;
 use entries::Met;

@@ -14,10 +14,10 @@ ghost use mathlib.Core.Path.{_≡_};
 ghost use lib.ListN.{length};
 
 // Of each of the three rooms the `ensures` gives only the length, so that no proof writes the zeros out.
-fn input_room() -> [u8; 400000]
-    ensures { λ r. ⌜ 400000 ≡ length r ⌝ }
+fn input_room() -> [u8; 440000]
+    ensures { λ r. ⌜ 440000 ≡ length r ⌝ }
 {
-    [0u8; 400000]
+    [0u8; 440000]
 }
 
 fn ram_room() -> [u8; 65536]
@@ -39,7 +39,7 @@ fn obeyed(d: Desk, c: Command, ram: &mut [u8], journal: &mut [u16]) -> Desk {
     if c.kind == 20 {
         return requests::run_points(d, c, ram, journal);
     }
-    if 20 < c.kind {
+    if (20 < c.kind) & (c.kind < 24) {
         return lists::arranged(d, c);
     }
     settings::arranged(d, c, ram, journal)

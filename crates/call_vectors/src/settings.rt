@@ -1,10 +1,11 @@
-// Kinds 9 to 19, which arrange what the calls find.
+// Kinds 9 to 19 and 24, which arrange what the calls find; above 24 they do nothing.
 use crate::buffers;
 use crate::commands::Command;
 use crate::digest;
 use crate::state;
 use crate::state::Desk;
 use bus::state::Cpu;
+use bus::state::Stretch;
 use calls::state::Machine;
 use word::sums;
 
@@ -40,7 +41,16 @@ fn with_halted(c: Cpu, y: u8) -> Cpu {
     after
 }
 
-// Kinds 10, 11, 12, 18 and 19.
+fn with_stretch(c: Cpu, first: u16, last: u16) -> Cpu {
+    let regs = c.regs;
+    let csrs = c.csrs;
+    let stretch = Stretch { first, last };
+    let mut board = c.board;
+    board.stretch = stretch;
+    Cpu { regs, csrs, board }
+}
+
+// Kinds 10, 11, 12, 18, 19 and 24.
 fn machine_set(m: Machine, c: Command) -> Machine {
     let kind = c.kind;
     let cpu = m.cpu;
@@ -58,6 +68,7 @@ fn machine_set(m: Machine, c: Command) -> Machine {
         },
         18 => with_cpu(m, with_register(cpu, c.y, c.a)),
         19 => with_cpu(m, with_halted(cpu, c.y)),
+        24 => with_cpu(m, with_stretch(cpu, c.a, c.b)),
         _ => m,
     }
 }
@@ -89,7 +100,7 @@ fn with_journal(d: Desk, length: u16, most: usize) -> Desk {
 fn started(d: Desk, from: u8, ram: &mut [u8], journal: &mut [u16]) -> Desk {
     buffers::fill(ram, from);
     buffers::clear(journal);
-    let machine = calls::state::start();
+    let machine = state::unprotected();
     let points = entries::none();
     Desk {
         machine,

@@ -14,9 +14,14 @@ pub struct Desk {
     pub line: u16,
 }
 
+// The machine as at the start, with no protected address.
+pub fn unprotected() -> Machine {
+    calls::state::start(bus::state::unprotected())
+}
+
 // Before the first command.
 pub fn opened() -> Desk {
-    let machine = calls::state::start();
+    let machine = unprotected();
     let points = entries::none();
     Desk {
         machine,

@@ -7,17 +7,16 @@ use lib.ListN.{length}
 use Rattle.bus.specs.declared.state.Cpu.{Cpu}
 use Rattle.cpu.specs.Step.{box}
 use Rattle.history.specs.Trace.{Next, refuses, Answer, refusal, Call, give, gave, guarded}
-use Rattle.history.specs.Ring.{Ring, slots, ring}
-use Rattle.records.specs.Record.{recordOf, decoded}
+use Rattle.history.specs.Ring.{Ring, slots}
 use Rattle.calls.specs.Inputs.{Input, nextOf, stepsOf, machine}
-use Rattle.calls.specs.Calls.{W, ramFits, journalFits, stateFits, firstOf, checkOf, answerOf, plainOf, worldOf, numberOf, replied}
+use Rattle.calls.specs.Calls.{W, ramFits, journalFits, stateFits, firstOf, checkOf, stretchOf, journalOf, answerOf, plainOf, worldOf, numberOf, replied}
 use Rattle.calls.specs.Code.{refuse, firstRefusal}
 use Rattle.calls.specs.declared.state.Machine.{Machine as MachineT}
 use Rattle.calls.specs.declared.state.Refusal.{Refusal}
 use Rattle.calls.specs.declared.state.Reply.{Reply}
 
 abbrev pub gives-by : W → ℕ → Next Cpu → Answer Cpu Ring
-gives-by = gave machine (ring recordOf decoded)
+gives-by w = gave machine (journalOf (stretchOf w)) w
 
 -- the first check that fails has the number of its refusal
 first-numbered : (a b c : Bool) → (firstOf a b c ≡ 0 → ⊥) → numberOf (firstRefusal (firstOf a b c)) ≡ firstOf a b c

@@ -32,7 +32,7 @@ module _ (b : Box Cpu) (c : Cpu) where
   unfolding nextOf
   sets i x h e = rw (lt-ltb i 16 h, e)
 
-  pub starts : c ≡ reset → nextOf resets b ≡ quietly c (b .ram)
+  pub starts : c ≡ reset (b .cpu .board .stretch) → nextOf resets b ≡ quietly c (b .ram)
   unfolding nextOf
   starts e = rw e
 

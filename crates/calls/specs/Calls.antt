@@ -7,8 +7,9 @@ use lib.Dec.{leb, ltb, eqb}
 use lib.ListN.{length}
 use Rattle.bus.specs.State.{word, reset}
 use Rattle.bus.specs.declared.state.Cpu.{Cpu}
+use Rattle.bus.specs.declared.state.Stretch.{Stretch}
 use Rattle.cpu.specs.Step.{box}
-use Rattle.history.specs.Trace.{World, Cause, no-run, budget, stopped, Answer, answers, Call, answer, plain}
+use Rattle.history.specs.Trace.{World, Effect, Undo, Store, Cause, no-run, budget, stopped, Answer, answers, Call, after, answer, plain}
 use Rattle.history.specs.Ring.{Ring, ringOf, slots, ring}
 use Rattle.records.specs.Record.{recordOf, decoded}
 use Rattle.calls.specs.Inputs.{Input, machine}
@@ -46,13 +47,25 @@ checkOf w =
     let j = w .journal in
     firstOf (ramFits (length (w .box .ram))) (journalFits (length (j .words))) (stateFits (slots (j .words)) (w .box .cpu) (j .next) (j .held))
 
+-- Q-4: the protected addresses
+abbrev pub stretchOf : W → Stretch
+stretchOf w = w .box .cpu .board .stretch
+
+-- the journal of a machine with protected addresses: no record holds them, and what a step-back brings back has those of the machine
+abbrev pub journalOf : Stretch → Store (Undo Cpu)
+journalOf p = ring recordOf (decoded p)
+
+-- what an accepted input leaves: the next state, and one record more
+abbrev pub went : W → Effect Cpu → W
+went w e = after machine (journalOf (stretchOf w)) w e
+
 -- what a call answers
 abbrev pub answerOf : Call Input → W → Answer Cpu Ring
-answerOf = answer machine (ring recordOf decoded) checkOf
+answerOf c w = answer machine (journalOf (stretchOf w)) checkOf c w
 
 -- what it answers where the checks are passed
 abbrev pub plainOf : Call Input → W → Answer Cpu Ring
-plainOf = plain machine (ring recordOf decoded)
+plainOf c w = plain machine (journalOf (stretchOf w)) c w
 
 -- machine, RAM and journal words
 abbrev pub worldOf : MachineT → List ℕ → List ℕ → W
@@ -89,6 +102,6 @@ replied r ram ws = saidBy (r .answer) (worldOf (r .machine) ram ws)
 abbrev pub Keeps : Call Input → MachineT → List ℕ → List ℕ → Reply → List ℕ → List ℕ → Type 0
 Keeps c m ram ws r ram′ ws′ = answerOf c (worldOf m ram ws) ≡ replied r ram′ ws′
 
--- "The starting state is this one with next slot and records held 0."
-abbrev pub started : MachineT
-started = record { cpu = reset; next = 0; held = 0 }
+-- "The starting state is this one with next slot and records held 0."; Q-4: with its protected addresses
+abbrev pub started : Stretch → MachineT
+started p = record { cpu = reset p; next = 0; held = 0 }

@@ -55,9 +55,10 @@ nextOf tick b = quietly (ticked (b .cpu)) (b .ram)
 nextOf (receive x) b = cond (b .cpu .board .devices .r) (refuses 5) (quietly (received x (b .cpu)) (b .ram))
 nextOf sent b = cond (b .cpu .board .devices .t) (refuses 5) (quietly (sentOff (b .cpu)) (b .ram))
 nextOf (setRegister i w) b = cond (ltb i 16) (quietly (registerSet i w (b .cpu)) (b .ram)) (refuses 6)
+-- Q-4: "Poke .. still write there"
 nextOf (poke a x) b = cond (ltb a (length (b .ram))) (gives (effect (b .cpu) (set (b .ram) a x) 1 a 0)) (refuses 7)
--- "RAM as it is"; "Reset as an input keeps the journal and is recorded like any other"
-nextOf resets b = quietly reset (b .ram)
+-- "RAM as it is"; "Reset as an input keeps the journal and is recorded like any other"; Q-4: the protected addresses are "fixed at start"
+nextOf resets b = quietly (reset (b .cpu .board .stretch)) (b .ram)
 
 -- a lone step counts as one, every other input as none
 abbrev pub stepsOf : Input → ℕ

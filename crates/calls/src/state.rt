@@ -1,5 +1,6 @@
 // The machine by value, and what a call answers.
 use bus::state::Cpu;
+use bus::state::Stretch;
 ghost use mathlib.Core.Path.{_≡_};
 ghost use Rattle.calls.specs.Calls.{numberOf, started};
 
@@ -9,11 +10,11 @@ pub struct Machine {
     pub held: usize,
 }
 
-// The starting state.
-pub fn start() -> Machine
-    ensures { λ r. ⌜ r ≡ started ⌝ }
+// The starting state, with the protected addresses that no call changes.
+pub fn start(stretch: Stretch) -> Machine
+    ensures { λ r. ⌜ r ≡ started stretch ⌝ }
 {
-    let cpu = bus::state::reset();
+    let cpu = bus::state::reset(stretch);
     Machine {
         cpu,
         next: 0,

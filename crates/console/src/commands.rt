@@ -45,11 +45,11 @@ b|back|ba|[N]|takes back the last step or input, or N of them|Registers, status 
 B|break|b|[-] [ADDR]|stops execute before the instruction at an address|Without an address it lists the breaks and their hits. - deletes the break at an address, or all. With the watches there are 64 at most.|
 c|csr||[NAME]|shows a status register, or all|A name is csr0 to csr15, or a number. Programs set them; the debugger does not.|
 D|do||FILE|does the commands in a file|Files may name files, 8 deep at most.|
-d|dump|d|[ADDR [SIZE]]|shows memory: bytes in hexadecimal, and characters|Without an address it goes on where the last dump ended. Size 0 is 65536 bytes.|
+d|dump|d|[ADDR [SIZE]]|shows memory: bytes in hexadecimal, and characters|Without an address it goes on where the last dump ended. Size 0 is 65536 bytes. A row's end tells which of its bytes are protected.|
 e|dumpd|dd|[ADDR [SIZE]]|shows memory: bytes in decimal|Addresses and sizes are as of dump.|
 w|dumpw|dw|[ADDR [SIZE]]|shows memory: words in hexadecimal|Addresses and sizes are as of dump.|
 W|dumpwd|dwd|[ADDR [SIZE]]|shows memory: words in decimal|Addresses and sizes are as of dump.|
-x|execute|x, exe|[N]|runs N steps, or until the machine halts|It stops at breaks and watches. Without N it runs 65,535 steps at a time, and stops after 100 such runs.|
+x|execute|x, exe|[N]|runs N steps, or until the machine halts|It stops at breaks and watches. Without N it runs 65,535 steps at a time, and stops after 100 such runs. Only its last step's dropped bytes are told.|
 h|help|h|[COMMAND]|tells about a command, or about all|? has one line for each command.|
 ?|?|||one line for each command|Numbers are decimal (-1 too), 0x1a2b, 0b1010_0101, or characters as 'x' or 'xy'.|
 H|history|hist|[FILE]|records commands in a file; without one it stops|Without a file it also tells how many records are held.|
@@ -64,7 +64,7 @@ R|reset|||resets the machine; memory stays|It is an input like others: back take
 X|rexecute|rx|[N]|steps back to a break, or past a store to a watch|It stops at a break's address, and when the step taken back had stored to a watched one; else after N, or where no record is held. Hits stay.|
 S|save||FILE [ADDR SIZE]|saves memory as an image|Without an address all of the RAM; size 0 is all up to its end.|
 t|sent|||the keyboard took the byte in TXD|It is refused while nothing waits to be sent (T is 1).|
-s|step|s|[N]|does one instruction, or N|A halted machine refuses it. Breaks and watches do not stop it.|
+s|step|s|[N]|does one instruction, or N|A halted machine refuses it. Breaks and watches do not stop it. A protected byte that it stored to is told: it stays.|
 T|tick||[N]|the clock ticks, once or N times|Each tick is an input of its own.|
 v|watch|w|[-] [ADDR]|stops execute after a store to an address|Without an address it lists the watches and their hits. - deletes the watch at an address, or all. Only stores are watched: watch w ADDR is the same.|
 ",

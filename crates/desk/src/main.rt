@@ -1,4 +1,5 @@
 // The desk: MB50's debugger on the laptop, over the proved machine. It reads commands from standard input, a line each.
+use bus::state::Stretch;
 use console::arguments;
 use console::arguments::Settings;
 use console::commands;
@@ -77,10 +78,19 @@ fn turn(d: Desk, machine: &mut [u16; 32], ram: &mut [u8], journal: &mut [u16]) -
     e
 }
 
+// The machine at the start, with its protected addresses.
+fn started(s: Settings) -> [u16; 32] {
+    let stretch = Stretch {
+        first: s.first,
+        last: s.last,
+    };
+    boundary::words::start(stretch)
+}
+
 // A proved loop has to end, and nothing says that the input does. So the loop counts its turns down, from a number that no one uses up.
-fn session(ram: &mut [u8], journal: &mut [u16]) {
+fn session(s: Settings, ram: &mut [u8], journal: &mut [u16]) {
     let mut d = state::opened();
-    let mut machine = boundary::words::start();
+    let mut machine = started(s);
     let mut turns = u64::MAX;
     while turns > 0 {
         d = turn(d, &mut machine, ram, journal);
@@ -94,7 +104,8 @@ fn session(ram: &mut [u8], journal: &mut [u16]) {
 // The memory at the start is the image, or zeros.
 fn begin(s: Settings, ram: &mut [u8], journal: &mut [u16]) {
     if images::start_image(s.image, ram) {
-        session(ram, journal);
+        arguments::tell_stretch(s);
+        session(s, ram, journal);
     }
 }
 

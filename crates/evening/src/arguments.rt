@@ -1,4 +1,4 @@
-// What the bench is started with: pens --at ADDR --stop ADDR [--budget N] [--set REG=VALUE].. [--ram N] [--slots N] FIRMWARE PENS TODAY LASTGOOD
+// What the bench is started with: pens --at ADDR --stop ADDR [--budget N] [--set REG=VALUE].. [--ram N] [--slots N] [--protect FIRST LAST] FIRMWARE PENS TODAY LASTGOOD
 use crate::given;
 use console::texts;
 use console::version;
@@ -14,6 +14,9 @@ const LAST: usize = 129;
 pub struct Settings {
     pub ram: usize,
     pub words: usize,
+    // The protected addresses; a first above the last means none.
+    pub first: u16,
+    pub last: u16,
     // How many words of the setup are in use.
     pub setup: usize,
     // The arguments that name the files; 0 is none.
@@ -29,7 +32,7 @@ pub struct Settings {
 fn usage(file: i32) {
     io::write_all(
         file,
-        b"usage: pens --at ADDR --stop ADDR [--budget N] [--set REG=VALUE].. [--ram N] [--slots N] FIRMWARE PENS TODAY LASTGOOD
+        b"usage: pens --at ADDR --stop ADDR [--budget N] [--set REG=VALUE].. [--ram N] [--slots N] [--protect FIRST LAST] FIRMWARE PENS TODAY LASTGOOD
 ",
     );
 }
@@ -64,18 +67,19 @@ fn told_help(s: Settings) -> Settings {
     version::show();
     usage(STDOUT_FILENO);
     report::text(
-        b"    --at ADDR        where each pen's name is poked, with a closing 0
-    --stop ADDR      where the matching routine is done: its run stops when pc is this address
-    --budget N       the most steps of a run, 0 to 65535; 65535 unless given
-    --set REG=VALUE  a register that is set before each run; a name is r0 to r15, sp, ca, ia, f, pc, or a number
-    --ram N          bytes of RAM, 0 to 65504; 30000 unless given
-    --slots N        records of the journal, 0 to 1024; 1024 unless given
-    --version        tells the version
-    --help           tells what stands here
-    FIRMWARE         four hexadecimal digits, a newline, then bytes: in memory from that address on at the start
-    PENS             pen numbers, one a line
-    TODAY            today's manifest: a number, a tab and a name in UTF-8 in each line
-    LASTGOOD         the last good manifest, in which a pen is looked up that today's has not
+        b"    --at ADDR             where each pen's name is poked, with a closing 0
+    --stop ADDR           where the matching routine is done: its run stops when pc is this address
+    --budget N            the most steps of a run, 0 to 65535; 65535 unless given
+    --set REG=VALUE       a register that is set before each run; a name is r0 to r15, sp, ca, ia, f, pc, or a number
+    --ram N               bytes of RAM, 0 to 65504; 30000 unless given
+    --slots N             records of the journal, 0 to 1024; 1024 unless given
+    --protect FIRST LAST  the first and the last address, 0 to 65535, of RAM that no instruction changes; none unless given
+    --version             tells the version
+    --help                tells what stands here
+    FIRMWARE              four hexadecimal digits, a newline, then bytes: in memory from that address on at the start
+    PENS                  pen numbers, one a line
+    TODAY                 today's manifest: a number, a tab and a name in UTF-8 in each line
+    LASTGOOD              the last good manifest, in which a pen is looked up that today's has not
 ",
     );
     ended(s)
@@ -168,6 +172,29 @@ fn with_slots(s: Settings, i: usize) -> Settings {
     e
 }
 
+fn bad_stretch(s: Settings, i: usize) -> Settings {
+    bad(
+        s,
+        b"--protect needs a first and a last address from 0 to 65535",
+        i,
+    )
+}
+
+fn with_stretch(s: Settings, i: usize) -> Settings {
+    let first = number_in(i);
+    let last = number_in(next(i));
+    if 65535 < first {
+        return bad_stretch(s, i);
+    }
+    if 65535 < last {
+        return bad_stretch(s, next(i));
+    }
+    let mut e = s;
+    e.first = first as u16;
+    e.last = last as u16;
+    e
+}
+
 fn with_file(s: Settings, i: usize) -> Settings {
     let mut e = s;
     if s.firmware == 0 {
@@ -189,15 +216,15 @@ fn with_file(s: Settings, i: usize) -> Settings {
     bad(s, b"there are more than four files", i)
 }
 
-// Which option a word is: its line here; 9 is another that begins with a minus sign, 255 none.
+// Which option a word is: its line here; 10 is another that begins with a minus sign, 255 none.
 fn option_in(word: &[u8]) -> u8 {
     let n = texts::find(
-        b"--at\n--stop\n--budget\n--set\n--ram\n--slots\n--version\n--help\n-h\n",
-        9,
+        b"--at\n--stop\n--budget\n--set\n--ram\n--slots\n--protect\n--version\n--help\n-h\n",
+        10,
         word,
     );
     if (n == 255) & (words::byte_at(word, 0) == b'-') {
-        return 9;
+        return 10;
     }
     n
 }
@@ -223,9 +250,10 @@ fn with_argument(s: Settings, setup: &mut [u16], kind: u8, i: usize) -> Settings
         3 => with_register(s, setup, next(i)),
         4 => with_ram(s, next(i)),
         5 => with_slots(s, next(i)),
-        6 => told_version(s),
-        7 | 8 => told_help(s),
-        9 => bad(s, b"there is no such option", i),
+        6 => with_stretch(s, next(i)),
+        7 => told_version(s),
+        8 | 9 => told_help(s),
+        10 => bad(s, b"there is no such option", i),
         _ => with_file(s, i),
     }
 }
@@ -237,17 +265,27 @@ fn next(i: usize) -> usize {
     i
 }
 
+// An option with what follows it: how many arguments they are.
+fn taken(kind: u8) -> usize
+    ensures { λ r. ⌜ 0 < r ⌝ }
+{
+    match kind {
+        6 => 3,
+        255 => 1,
+        _ => 2,
+    }
+}
+
 // The next argument that does not follow an option.
 fn following(i: usize, n: usize, kind: u8) -> usize
     requires { ⌜ i < n ⌝ }
     ensures { λ r. ⌜ (i < r) × (r ≤ n) ⌝ }
 {
-    if kind != 255 {
-        if i + 1 < n {
-            return i + 2;
-        }
+    let k = taken(kind);
+    if k < n - i {
+        return i + k;
     }
-    i + 1
+    n
 }
 
 fn whole(s: Settings) -> Settings {
@@ -268,6 +306,8 @@ fn beginning(setup: &mut [u16]) -> Settings {
     Settings {
         ram: 30000,
         words: 32768,
+        first: 1,
+        last: 0,
         setup: 3,
         firmware: 0,
         pens: 0,

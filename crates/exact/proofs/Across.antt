@@ -7,18 +7,20 @@ use mathlib.Core.List.{List, [], _∷_, map}
 use native.Mathlib.Omega.{arith}
 use borrow.Author.Tests.{eqb-false}
 use lib.Dec.{eqb}
+use lib.ListN.{set}
 use Rattle.word.specs.Word.{lowAt}
 use Rattle.bus.specs.State.{reset}
 use Rattle.bus.specs.Good.{Good}
 use Rattle.bus.specs.declared.state.Cpu.{Cpu}
+use Rattle.bus.specs.declared.state.Stretch.{Stretch}
 use Rattle.history.specs.Trace.{Next, refuses, gives, Undo, Answer, Call, give, run, back, Cause, no-run, budget, stopped, Left, leaves, upTo}
-use Rattle.history.specs.Trace.{guarded, causeOf, after, stepped, ran, one, Exactly}
+use Rattle.history.specs.Trace.{guarded, causeOf, stepped, ran, one, answer, Exactly}
 use Rattle.history.specs.Ring.{Ring, slots}
 use Rattle.records.specs.Record.{recordWith, undoFrom}
 use Rattle.calls.specs.Inputs.{Input, step, box, nextOf, machine}
-use Rattle.calls.specs.Calls.{W, checkOf, answerOf, worldOf, started}
+use Rattle.calls.specs.Calls.{W, checkOf, stretchOf, journalOf, went, answerOf, worldOf, started}
 use Rattle.calls.specs.declared.state.Machine.{Machine as MachineT}
-use Rattle.boundary.specs.Boundary.{startWords, taken, given, packed, runSteps, resultOf, Crossed, crossed}
+use Rattle.boundary.specs.Boundary.{startWords, stretchIn, taken, given, packed, runSteps, resultOf, Crossed, crossed}
 use Rattle.entries.specs.declared.Entry.{Entry}
 use Rattle.watched.specs.Answer.{Watched, watchedOf, asRun}
 use Rattle.crossing.specs.Crossing.{watchedResult, CrossedList, crossedWith, CrossesWatched}
@@ -30,33 +32,43 @@ use Rattle.exact.specs.Boundary3.{Promised, Exports, owned}
 use Rattle.exact.specs.Boundary3.{leftOver, leftIn, startOwned, ownedAtEnd, Demand3Across}
 use Rattle.exact.proofs.Records.{FineUndo, reads-undo}
 use Rattle.exact.proofs.Lawful.{roomy, ruly}
-use Rattle.exact.proofs.Counts.{journal, counts}
+use Rattle.exact.proofs.Counts.{counts}
 use Rattle.exact.proofs.Places.{stays}
-use Rattle.exact.proofs.Played.{P, at, playing, starting, AptCalls, apt, plays, Reached, reached}
+use Rattle.exact.proofs.Played.{reset-keeps, P, at, playing, starting, AptCalls, apt, plays, Reached, reached}
 use Rattle.exact.proofs.Stands.{stands, unmoved, few-steps, small-number}
 use Rattle.exact.proofs.Seen.{calls, all-apt, played}
 
--- "The starting state is all words 0 but word 24, which is 2": it is the rules' own
-pub starts : taken startWords ≡ started
+-- "The starting state is all words 0 but word 24, which is 2 (T=1), and words 30 and 31": it is the rules' own
+pub starts : (p : Stretch) → taken (startWords p) ≡ started p
 unfolding undoFrom reset
-starts = refl
+starts p = refl
 
 -- ---- the words that a call gives
 abbrev machineWith : Cpu → ℕ → ℕ → MachineT
 machineWith c next held = record { cpu = c; next = next; held = held }
 
-reads : (c : Cpu) (next held : ℕ) → Good c → taken (recordWith c next held 0) ≡ machineWith c next held
-unfolding undoFrom
+-- words 30 and 31 say the protected addresses, and nothing else
+told-beside : (p : Stretch) (c : Cpu) (next held : ℕ) → let w = recordWith c next held 0 in
+    taken (set (set w 30 (p .first)) 31 (p .last)) ≡ machineWith (undoFrom p w .cpu) (undoFrom p w .count) (undoFrom p w .first)
+unfolding undoFrom recordWith
+told-beside p c next held = refl
+
+reads : (c : Cpu) (next held : ℕ) → Good c → let p = c .board .stretch in
+    taken (set (set (recordWith c next held 0) 30 (p .first)) 31 (p .last)) ≡ machineWith c next held
 reads c next held g =
-    ap (λ (u : Undo Cpu). machineWith (u .cpu) (u .count) (u .first))
+    told-beside (c .board .stretch) c next held
+    ∙ ap (λ (u : Undo Cpu). machineWith (u .cpu) (u .count) (u .first))
     (reads-undo (record { cpu = c; count = next; first = held; low = 0; high = 0 }) (roomy g) (omega arith))
 
 -- the next call takes them as the machine that they were given for
 pub takes-given : (c : Cpu) (next held : ℕ) → Good c → next ≤ 1024 → held ≤ 1024 → taken (given c next held) ≡ machineWith c next held
+unfolding given
 takes-given c next held g n h =
     let e : lowAt 16 next ≡ next = omega arith in
     let f : lowAt 16 held ≡ held = omega arith in
-    ap (λ (x : ℕ). taken (recordWith c x (lowAt 16 held) 0)) e ∙ ap (λ (x : ℕ). taken (recordWith c next x 0)) f ∙ reads c next held g
+    let p = c .board .stretch in
+    ap (λ (x : ℕ). taken (set (set (recordWith c x (lowAt 16 held) 0) 30 (p .first)) 31 (p .last))) e
+    ∙ ap (λ (x : ℕ). taken (set (set (recordWith c next x 0) 30 (p .first)) 31 (p .last))) f ∙ reads c next held g
 
 abbrev givenOf : W → List ℕ
 givenOf w = given (w .box .cpu) (w .journal .next) (w .journal .held)
@@ -64,14 +76,15 @@ givenOf w = given (w .box .cpu) (w .journal .next) (w .journal .held)
 abbrev machineOf : W → MachineT
 machineOf w = machineWith (w .box .cpu) (w .journal .next) (w .journal .held)
 
-gives-back : {w : W} → Reached w → taken (givenOf w) ≡ machineOf w
-gives-back {w} r = takes-given (w .box .cpu) (w .journal .next) (w .journal .held) (r .good .cpu) (r .sits .next) (r .sits .held)
+gives-back : {p : Stretch} {w : W} → Reached p w → taken (givenOf w) ≡ machineOf w
+gives-back {p} {w} r = takes-given (w .box .cpu) (w .journal .next) (w .journal .held) (r .good .good .cpu) (r .sits .next) (r .sits .held)
 
 -- so for every machine that calls reach from the start
-pub words-mean : (m ws : List ℕ) (xs : List Made) → Allowed m ws → Chain started m ws xs → taken (givenOf (ended m ws xs)) ≡ machineOf (ended m ws xs)
-words-mean m ws xs ok ch =
-    let e = played (slots ws) started m ws (record { inputs = []; held = 0 }) xs ch in
-    gives-back (subst (λ (p : P). Reached (p .world)) e (reached m ws (calls xs) ok (all-apt started m ws xs ch)))
+pub words-mean : (p : Stretch) (m ws : List ℕ) (xs : List Made) → Allowed m ws → Chain (started p) m ws xs
+    → taken (givenOf (ended p m ws xs)) ≡ machineOf (ended p m ws xs)
+words-mean p m ws xs ok ch =
+    let e = played p (slots ws) (started p) m ws (record { inputs = []; held = 0 }) xs (reset-keeps p) ch in
+    gives-back {p = p} (subst (λ (q : P p). Reached p (q .world)) e (reached p m ws (calls xs) ok (all-apt p (started p) m ws xs ch)))
 
 -- ---- the fields of a result
 pub number-field : (n s b k : ℕ) → n ≤ 65535 → s ≤ 65535 → numberIn (packed n s b k) ≡ n
@@ -83,18 +96,19 @@ unfolding packed
 steps-field n s b k l h = omega arith
 
 -- a run tells its steps
-cause-steps : (s : ℕ) (x : Next Cpu) → runSteps (causeOf machine journal x) s ≡ s
-cause-steps s (refuses n) = refl
-cause-steps s (gives e) = refl
+module _ (p : Stretch) where
+  cause-steps : (s : ℕ) (x : Next Cpu) → runSteps (causeOf machine (journalOf p) x) s ≡ s
+  cause-steps s (refuses n) = refl
+  cause-steps s (gives e) = refl
 
-stepped-steps : (s : ℕ) (f : W → Answer Cpu Ring) (w : W) (x : Next Cpu) → ((v : W) → runSteps (f v .cause) s ≡ s) →
-    runSteps (stepped machine journal f w x .cause) s ≡ s
-stepped-steps s f w (refuses n) h = refl
-stepped-steps s f w (gives e) h = h (after machine journal w e)
+  stepped-steps : (s : ℕ) (f : W → Answer Cpu Ring) (w : W) (x : Next Cpu) → ((v : W) → runSteps (f v .cause) s ≡ s) →
+      runSteps (stepped machine (journalOf p) f w x .cause) s ≡ s
+  stepped-steps s f w (refuses n) h = refl
+  stepped-steps s f w (gives e) h = h (went w e)
 
-run-steps : (s k : ℕ) (w : W) → runSteps (ran machine journal k w .cause) s ≡ s
-run-steps s zero w = cause-steps s (nextOf step (w .box))
-run-steps s (suc k) w = stepped-steps s (ran machine journal k) w (nextOf step (w .box)) (run-steps s k)
+  run-steps : (s k : ℕ) (w : W) → runSteps (ran machine (journalOf p) k w .cause) s ≡ s
+  run-steps s zero w = cause-steps s (nextOf step (w .box))
+  run-steps s (suc k) w = stepped-steps s (ran machine (journalOf p) k) w (nextOf step (w .box)) (run-steps s k)
 
 -- what is left does not depend on the steps that any other call has
 module _ (n : ℕ) (l : Left Input) where
@@ -119,7 +133,7 @@ module _ (n : ℕ) (l : Left Input) where
 
   told-left : (c : Call Input) (w : W) → leftTold c (answerOf c w) ≡ leftWith c (answerOf c w .number) (answerOf c w .steps)
   told-left (give i) w = give-left i (answerOf (give i) w .number) _ _
-  told-left (run k) w = run-left k (checkOf w) w (ran machine journal k w) (run-steps _ k w)
+  told-left (run k) w = run-left k (checkOf w) w (ran machine (journalOf (stretchOf w)) k w) (run-steps (stretchOf w) _ k w)
   told-left back w = back-left (answerOf back w .number) _ _
 
 -- ---- what an answer leaves over the boundary
@@ -133,11 +147,11 @@ module _ (a : Answer Cpu Ring) (o o′ : Owned) (words-are : cond (eqb (a .numbe
   meant-same e = rw (e, ram-is, journal-is)
 
   -- the words mean what the answer leaves: those of an accepted call were given for it, and a refused call changes nothing
-  pub world-kept : Reached (a .world) → ((a .number ≡ 0 → ⊥) → a .world ≡ meant o) → a .world ≡ meant o′
-  world-kept h unmoved = go (eqb (a .number) 0) refl
+  pub world-kept : {p : Stretch} → Reached p (a .world) → ((a .number ≡ 0 → ⊥) → a .world ≡ meant o) → a .world ≡ meant o′
+  world-kept {p} h unmoved = go (eqb (a .number) 0) refl
     where
       go : (t : Bool) → eqb (a .number) 0 ≡ t → a .world ≡ meant o′
-      go true e = ap beside (sym (gives-back h)) ∙ meant-same (rw e at words-are)
+      go true e = ap beside (sym (gives-back {p = p} h)) ∙ meant-same (rw e at words-are)
       go false e = ap (λ (w : W). beside (machineOf w)) (unmoved (eqb-false (a .number) 0 e)) ∙ meant-same (rw e at words-are)
 
 -- ---- one call over the boundary
@@ -180,8 +194,8 @@ module _ (c : Call Input) (o : Owned) (r : ℕ) (o′ : Owned) (k : Kept c o r o
       ∙ ap (leftWith n l c (a .number)) (ap stepsIn result-is ∙ steps-field (a .number) _ _ _ (omega (arith, counts c (meant o) b .number)) (run-few b))
       ∙ told-left n l c (meant o)
 
-  world-is : Reached (a .world) → a .world ≡ meant o′
-  world-is h = world-kept a o o′ words-are ram-is journal-is h (stays c (meant o))
+  world-is : {p : Stretch} → Reached p (a .world) → a .world ≡ meant o′
+  world-is {p} h = world-kept a o o′ words-are ram-is journal-is {p = p} h (stays c (meant o))
 
 -- ---- one watched run over the boundary
 module _ (n : ℕ) (l : List Entry) (o : Owned) (r : ℕ) (o′ : Owned) (l′ : List Entry) (few : n ≤ 65535)
@@ -203,11 +217,11 @@ module _ (n : ℕ) (l : List Entry) (o : Owned) (r : ℕ) (o′ : Owned) (l′ :
       let s = few-steps n l (meant o) in
       ap stepsIn watched-result ∙ steps-field (w .number) _ _ _ (omega (arith, small-number n l (meant o))) (omega (arith, s, few))
 
-  watched-world : Reached (w .world) → w .world ≡ meant o′
+  watched-world : {p : Stretch} → Reached p (w .world) → w .world ≡ meant o′
   unfolding crossedWith crossed
-  watched-world h =
+  watched-world {p} h =
       world-kept (asRun w) o o′ (ap (λ (x : CrossedList). x .crossed .words) k) (ap (λ (x : CrossedList). x .crossed .ram) k)
-      (ap (λ (x : CrossedList). x .crossed .journal) k) h (unmoved n l (meant o))
+      (ap (λ (x : CrossedList). x .crossed .journal) k) {p = p} h (unmoved n l (meant o))
 
 -- ---- a list of calls over the boundary
 -- the call that the rules play for it: of a watched run the plain run of its own steps
@@ -218,54 +232,79 @@ stood (watching n l r o l′) = run (stepsIn r)
 abbrev named : List Exported → List (Call Input)
 named xs = map stood xs
 
-pub stood-apt : (o : Owned) (x : Exported) → Promised o x → Apt machine FineUndo ruly (stood x)
-stood-apt o (exported c r o′) k = apt c (k .0 .0)
-stood-apt o (watching n l r o′ l′) k = tt
+-- the machine that words mean has the protected addresses that they say
+pub meant-stretch : (o : Owned) → stretchOf (meant o) ≡ stretchIn (o .words)
+unfolding undoFrom
+meant-stretch o = refl
 
-named-apt : (o : Owned) (xs : List Exported) → Exports o xs → AptCalls (named xs)
-named-apt o [] ch = tt
-named-apt o (x ∷ xs) ch = (stood-apt o x (ch .0), named-apt (ownedAfter x) xs (ch .1))
+-- ---- for a machine that was started with the protected addresses p
+module _ (p : Stretch) where
+  pub stood-apt : (o : Owned) (x : Exported) → Promised o x → Apt machine (FineUndo p) (ruly p) (stood x)
+  stood-apt o (exported c r o′) k = apt p c (k .0 .0)
+  stood-apt o (watching n l r o′ l′) k = tt
 
--- whatever is called from here on, what it reaches is good
-abbrev Ever : ℕ → P → Type 0
-Ever n p = (cs : List (Call Input)) → AptCalls cs → Reached (playing n cs p .world)
+  named-apt : (o : Owned) (xs : List Exported) → Exports o xs → AptCalls p (named xs)
+  named-apt o [] ch = tt
+  named-apt o (x ∷ xs) ch = (stood-apt o x (ch .0), named-apt (ownedAfter x) xs (ch .1))
 
-abbrev plays-one : ℕ → Call Input → P → P
-plays-one n c p = one machine journal checkOf (upTo n) c p
+  -- whatever is called from here on, what it reaches is good
+  abbrev Ever : ℕ → P p → Type 0
+  Ever n q = (cs : List (Call Input)) → AptCalls p cs → Reached p (playing p n cs q .world)
 
--- the rules' play of one call is what the words, RAM and journal mean
-pub crosses-one : (n : ℕ) (o : Owned) (l : Left Input) (x : Exported) → Promised o x → Reached (plays-one n (stood x) (at (meant o) l) .world) →
-    plays-one n (stood x) (at (meant o) l) ≡ at (meant (ownedAfter x)) (leaves (upTo n) step (called x) (numberIn (resultIn x)) (stepsIn (resultIn x)) l)
-crosses-one n o l (exported c r o′) k h =
-    ap (at (answerOf c (meant o) .world)) (sym (left-is c o r o′ (k .1) n l (k .0 .1)))
-    ∙ ap (λ (v : W). at v (leftWith n l c (numberIn r) (stepsIn r))) (world-is c o r o′ (k .1) h)
-crosses-one n o l (watching b es r o′ es′) k h =
+  abbrev plays-one : ℕ → Call Input → P p → P p
+  plays-one n c q = one machine (journalOf p) checkOf (upTo n) c q
+
+  -- what the rules' play of one call has to be: what the words, RAM and journal mean
+  abbrev CrossedAs : ℕ → Owned → Left Input → Exported → Type 0
+  CrossedAs n o l x =
+      Reached p (plays-one n (stood x) (at p (meant o) l) .world)
+      → plays-one n (stood x) (at p (meant o) l) ≡ at p (meant (ownedAfter x)) (leaves (upTo n) step (called x) (numberIn (resultIn x)) (stepsIn (resultIn x)) l)
+
+crosses-here : (n : ℕ) (o : Owned) (l : Left Input) (x : Exported) → Promised o x → CrossedAs (stretchOf (meant o)) n o l x
+crosses-here n o l (exported c r o′) k h =
+    let p = stretchOf (meant o) in
+    ap (at p (answerOf c (meant o) .world)) (sym (left-is c o r o′ (k .1) n l (k .0 .1)))
+    ∙ ap (λ (v : W). at p v (leftWith n l c (numberIn r) (stepsIn r))) (world-is c o r o′ (k .1) {p = p} h)
+crosses-here n o l (watching b es r o′ es′) k h =
+    let p = stretchOf (meant o) in
     let s = watched-steps b es o r o′ es′ (k .0) (k .1) in
-    let p : plays-one n (run (stepsIn r)) (at (meant o) l) ≡ at (watchedOf b es (meant o) .world) (leftWith n l (run b) (watchedOf b es (meant o) .number)
+    let q : plays-one p n (run (stepsIn r)) (at p (meant o) l) ≡ at p (watchedOf b es (meant o) .world) (leftWith n l (run b) (watchedOf b es (meant o) .number)
     (watchedOf b es (meant o) .steps)) =
-    ap (λ (i : ℕ). plays-one n (run i) (at (meant o) l)) s ∙ stands b es (meant o) n l
+    ap (λ (i : ℕ). plays-one p n (run i) (at p (meant o) l)) s ∙ stands b es (meant o) p n l
     in
-    let v = watched-world b es o r o′ es′ (k .0) (k .1) (subst (λ (q : P). Reached (q .world)) p h) in
-    p ∙ rw (← watched-number b es o r o′ es′ (k .0) (k .1), ← s, v)
+    let v = watched-world b es o r o′ es′ (k .0) (k .1) {p = p} (subst (λ (z : P p). Reached p (z .world)) q h) in
+    q ∙ rw (← watched-number b es o r o′ es′ (k .0) (k .1), ← s, v)
 
--- the rules' play of the calls is what the words, RAM and journal mean
-crosses : (n : ℕ) (o : Owned) (l : Left Input) (xs : List Exported) → Exports o xs → Ever n (at (meant o) l) →
-    playing n (named xs) (at (meant o) l) ≡ at (meant (owned o xs)) (leftOver n l xs)
-crosses n o l [] ch v = refl
-crosses n o l (x ∷ xs) ch v =
-    let t = stood-apt o x (ch .0) in
-    let e = crosses-one n o l x (ch .0) (v (stood x ∷ []) (t, tt)) in
-    ap (playing n (named xs)) e ∙ crosses n (ownedAfter x) _ xs (ch .1) (subst (Ever n) e (λ cs f. v (stood x ∷ cs) (t, f)))
+module _ (p : Stretch) where
+  pub crosses-one : (n : ℕ) (o : Owned) (l : Left Input) (x : Exported) → stretchOf (meant o) ≡ p → Promised o x → CrossedAs p n o l x
+  crosses-one n o l x e k = subst (λ (q : Stretch). CrossedAs q n o l x) e (crosses-here n o l x k)
 
--- demand 3 for who links libmb50.a
-pub demand3-across : (m ws : List ℕ) (xs : List Exported) → Allowed m ws → Exports (startOwned m ws) xs → Demand3Across m ws xs
-demand3-across m ws xs ok ch =
-    let n = slots ws in
-    let none : Left Input = record { inputs = []; held = 0 } in
-    let s : starting m ws ≡ at (meant (startOwned m ws)) none = ap (λ (x : MachineT). at (worldOf x m ws) none) (sym starts) in
-    let v : Ever n (at (meant (startOwned m ws)) none) = subst (Ever n) s (λ cs f. reached m ws cs ok f) in
-    let e : playing n (named xs) (starting m ws) ≡ at (meant (ownedAtEnd m ws xs)) (leftIn ws xs) =
-    ap (playing n (named xs)) s ∙ crosses n (startOwned m ws) none xs ch v
-    in
-    let x = subst (Exactly machine journal checkOf (box reset m)) e (plays m ws ok (named xs) (named-apt (startOwned m ws) xs ch)) in
-    record { state = x .state; held = x .held; refused = λ r o k. number-is back (ownedAtEnd m ws xs) r o k tt ∙ x .refused }
+  -- the rules' play of the calls is what the words, RAM and journal mean
+  crosses : (n : ℕ) (o : Owned) (l : Left Input) (xs : List Exported) → Exports o xs → Ever p n (at p (meant o) l) →
+      playing p n (named xs) (at p (meant o) l) ≡ at p (meant (owned o xs)) (leftOver n l xs)
+  crosses n o l [] ch v = refl
+  crosses n o l (x ∷ xs) ch v =
+      let t = stood-apt p o x (ch .0) in
+      let e = crosses-one n o l x (v [] tt .good .stretch) (ch .0) (v (stood x ∷ []) (t, tt)) in
+      ap (playing p n (named xs)) e ∙ crosses n (ownedAfter x) _ xs (ch .1) (subst (Ever p n) e (λ cs f. v (stood x ∷ cs) (t, f)))
+
+  -- demand 3 for who links libmb50.a
+  pub demand3-across : (m ws : List ℕ) (xs : List Exported) → Allowed m ws → Exports (startOwned p m ws) xs → Demand3Across p m ws xs
+  demand3-across m ws xs ok ch =
+      let n = slots ws in
+      let none : Left Input = record { inputs = []; held = 0 } in
+      let s : starting p m ws ≡ at p (meant (startOwned p m ws)) none = ap (λ (x : MachineT). at p (worldOf x m ws) none) (sym (starts p)) in
+      let v : Ever p n (at p (meant (startOwned p m ws)) none) = subst (Ever p n) s (λ cs f. reached p m ws cs ok f) in
+      let e : playing p n (named xs) (starting p m ws) ≡ at p (meant (ownedAtEnd p m ws xs)) (leftIn ws xs) =
+      ap (playing p n (named xs)) s ∙ crosses n (startOwned p m ws) none xs ch v
+      in
+      let f = named-apt p (startOwned p m ws) xs ch in
+      let x = subst (Exactly machine (journalOf p) checkOf (box (reset p) m)) e (plays p m ws ok (named xs) f) in
+      let q : stretchOf (meant (ownedAtEnd p m ws xs)) ≡ p = subst (λ (z : P p). Reached p (z .world)) e (reached p m ws (named xs) ok f) .good .stretch in
+      record {
+        state = x .state;
+        stretch = sym (meant-stretch (ownedAtEnd p m ws xs)) ∙ q;
+        held = x .held;
+        refused = λ r o k. number-is back (ownedAtEnd p m ws xs) r o k tt
+            ∙ ap (λ (z : Stretch). answer machine (journalOf z) checkOf back (meant (ownedAtEnd p m ws xs)) .number) q ∙ x .refused;
+      }

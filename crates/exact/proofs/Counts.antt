@@ -17,18 +17,19 @@ use Rattle.names.specs.Names.{F, PC}
 use Rattle.bus.specs.State.{word}
 use Rattle.bus.specs.Addresses.{byteAt}
 use Rattle.bus.specs.declared.state.Cpu.{Cpu}
+use Rattle.bus.specs.declared.state.Stretch.{Stretch}
 use Rattle.bus.specs.declared.state.Board.{Board}
 use Rattle.bus.specs.declared.state.Devices.{Devices}
 use Rattle.bus.proofs.Kept.{picked}
 use Rattle.memory.specs.Instructions.{Loaded, loaded, stored}
 use Rattle.exceptions.specs.Exceptions.{due}
 use Rattle.cpu.specs.Step.{executed, past, runs, stepOf}
-use Rattle.history.specs.Trace.{Box, Effect, Next, refuses, gives, Popped, denies, hands, Undo, Store as Journal, Answer, Call, give, run, back}
-use Rattle.history.specs.Trace.{guarded, gave, backed, after, stepped, ran, plain}
-use Rattle.history.specs.Ring.{Ring, slots, slotBefore, slotWords, popped, poppedAt, ring}
-use Rattle.records.specs.Record.{recordOf, decoded}
+use Rattle.history.specs.Trace.{Box, Effect, Next, refuses, gives, Popped, denies, hands, Undo, Answer, Call, give, run, back}
+use Rattle.history.specs.Trace.{guarded, gave, backed, stepped, ran, plain}
+use Rattle.history.specs.Ring.{Ring, slots, slotBefore, slotWords, popped, poppedAt}
+use Rattle.records.specs.Record.{decoded}
 use Rattle.calls.specs.Inputs.{Input, step, tick, receive, sent, setRegister, poke, resets, nextOf, stepsOf, machine}
-use Rattle.calls.specs.Calls.{W, ramFits, journalFits, stateFits, checkOf, answerOf}
+use Rattle.calls.specs.Calls.{W, ramFits, journalFits, stateFits, checkOf, stretchOf, journalOf, went, answerOf}
 use Rattle.exact.specs.Fields.{Budgeted, Counted, CountsWhole}
 
 -- ---- one step
@@ -89,58 +90,57 @@ steps-small (poke a x) = omega arith
 steps-small resets = omega arith
 
 -- ---- one call
-abbrev pub journal : Journal (Undo Cpu)
-journal = ring recordOf decoded
-
 -- a refusal of the table, at most n steps, and at most four bus bytes for each
 record Few (n : ℕ) (a : Answer Cpu Ring) : Type 0 where
   number : a .number ≤ 9
   steps : a .steps ≤ n
   each : a .bus ≤ 4 * a .steps
 
-gave-few : (w : W) (s : ℕ) (x : Next Cpu) → Light s x → Few s (gave machine journal w s x)
-unfolding Light
-gave-few w s (refuses n) l = record { number = l; steps = omega arith; each = omega arith }
-gave-few w s (gives e) l = record { number = omega arith; steps = omega arith; each = l }
+-- by the journal of any protected addresses
+module _ (p : Stretch) where
+  gave-few : (w : W) (s : ℕ) (x : Next Cpu) → Light s x → Few s (gave machine (journalOf p) w s x)
+  unfolding Light
+  gave-few w s (refuses n) l = record { number = l; steps = omega arith; each = omega arith }
+  gave-few w s (gives e) l = record { number = omega arith; steps = omega arith; each = l }
 
-stepped-few : (n : ℕ) (k : W → Answer Cpu Ring) (w : W) (x : Next Cpu) → ((v : W) → Few n (k v)) → Light 1 x → Few (suc n) (stepped machine journal k w x)
-unfolding Light
-stepped-few n k w (refuses m) h l = record { number = omega arith; steps = omega arith; each = omega arith }
-stepped-few n k w (gives e) h l =
-    let f = h (after machine journal w e) in
-    record { number = omega arith; steps = omega (arith, f .steps); each = omega (arith, f .each, l) }
+  stepped-few : (n : ℕ) (k : W → Answer Cpu Ring) (w : W) (x : Next Cpu) → ((v : W) → Few n (k v)) → Light 1 x → Few (suc n) (stepped machine (journalOf p) k w x)
+  unfolding Light
+  stepped-few n k w (refuses m) h l = record { number = omega arith; steps = omega arith; each = omega arith }
+  stepped-few n k w (gives e) h l =
+      let f = h (went w e) in
+      record { number = omega arith; steps = omega (arith, f .steps); each = omega (arith, f .each, l) }
 
-ran-few : (n : ℕ) (w : W) → Few n (ran machine journal n w)
-ran-few zero w = record { number = omega arith; steps = omega arith; each = omega arith }
-ran-few (suc n) w = stepped-few n (ran machine journal n) w (nextOf step (w .box)) (ran-few n) (light step (w .box))
+  ran-few : (n : ℕ) (w : W) → Few n (ran machine (journalOf p) n w)
+  ran-few zero w = record { number = omega arith; steps = omega arith; each = omega arith }
+  ran-few (suc n) w = stepped-few n (ran machine (journalOf p) n) w (nextOf step (w .box)) (ran-few n) (light step (w .box))
 
-Told : Popped (Undo Cpu) Ring → Type 0
-Told (denies n) = n ≤ 9
-Told (hands u j) = Unit {0}
+  Told : Popped (Undo Cpu) Ring → Type 0
+  Told (denies n) = n ≤ 9
+  Told (hands u j) = Unit {0}
 
-pop-told : (k h : ℕ) (j : Ring) → Told (poppedAt decoded k h j)
-unfolding Told
-pop-told k zero j = omega arith
-pop-told k (suc n) j = go (decoded (slotWords (j .words) k))
-  where
-    go : (x : Option (Undo Cpu)) → Told (popped k x j)
-    go none = omega arith
-    go (some u) = tt
+  pop-told : (k h : ℕ) (j : Ring) → Told (poppedAt (decoded p) k h j)
+  unfolding Told
+  pop-told k zero j = omega arith
+  pop-told k (suc n) j = go (decoded p (slotWords (j .words) k))
+    where
+      go : (x : Option (Undo Cpu)) → Told (popped k x j)
+      go none = omega arith
+      go (some u) = tt
 
-backed-few : (w : W) (x : Popped (Undo Cpu) Ring) → Told x → Few 0 (backed machine journal w x)
-unfolding Told
-backed-few w (denies n) l = record { number = l; steps = omega arith; each = omega arith }
-backed-few w (hands u j) l = record { number = omega arith; steps = omega arith; each = omega arith }
+  backed-few : (w : W) (x : Popped (Undo Cpu) Ring) → Told x → Few 0 (backed machine (journalOf p) w x)
+  unfolding Told
+  backed-few w (denies n) l = record { number = l; steps = omega arith; each = omega arith }
+  backed-few w (hands u j) l = record { number = omega arith; steps = omega arith; each = omega arith }
 
-wider : {n : ℕ} {a : Answer Cpu Ring} → n ≤ 65535 → Few n a → Counted a
-wider h f = record { number = f .number; steps = omega (arith, f .steps); each = f .each; bus = omega (arith, f .steps, f .each) }
+  wider : {n : ℕ} {a : Answer Cpu Ring} → n ≤ 65535 → Few n a → Counted a
+  wider h f = record { number = f .number; steps = omega (arith, f .steps); each = f .each; bus = omega (arith, f .steps, f .each) }
 
-plain-counts : (c : Call Input) (w : W) → Budgeted c → Counted (plain machine journal c w)
-plain-counts (give i) w h = wider (omega (arith, steps-small i)) (gave-few w (stepsOf i) (nextOf i (w .box)) (light i (w .box)))
-plain-counts (run n) w h = wider h (ran-few n w)
-plain-counts back w h =
-    let j = w .journal in
-    wider (omega arith) (backed-few w (journal .pop j) (pop-told (slotBefore (slots (j .words)) (j .next)) (j .held) j))
+  plain-counts : (c : Call Input) (w : W) → Budgeted c → Counted (plain machine (journalOf p) c w)
+  plain-counts (give i) w h = wider (omega (arith, steps-small i)) (gave-few w (stepsOf i) (nextOf i (w .box)) (light i (w .box)))
+  plain-counts (run n) w h = wider h (ran-few n w)
+  plain-counts back w h =
+      let j = w .journal in
+      wider (omega arith) (backed-few w (journalOf p .pop j) (pop-told (slotBefore (slots (j .words)) (j .next)) (j .held) j))
 
 guarded-counts : (n : ℕ) (w : W) (a : Answer Cpu Ring) → n ≤ 9 → Counted a → Counted (guarded n w a)
 guarded-counts zero w a l h = h
@@ -159,7 +159,7 @@ check-small w =
 
 -- every answer has a number of the table, at most 65,535 steps and four bus bytes for each
 pub counts : (c : Call Input) (w : W) → Budgeted c → Counted (answerOf c w)
-counts c w h = guarded-counts (checkOf w) w _ (check-small w) (plain-counts c w h)
+counts c w h = guarded-counts (checkOf w) w _ (check-small w) (plain-counts (stretchOf w) c w h)
 
 -- so their fields hold them whole
 pub counts-whole : (c : Call Input) (w : W) → Budgeted c → CountsWhole (answerOf c w)

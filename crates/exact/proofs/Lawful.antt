@@ -14,22 +14,23 @@ use Rattle.names.specs.Names.{F}
 use Rattle.bus.specs.State.{word, devices}
 use Rattle.bus.specs.Good.{Within, GoodDevices, Good, Changed, none, one, two}
 use Rattle.bus.specs.declared.state.Cpu.{Cpu}
+use Rattle.bus.specs.declared.state.Stretch.{Stretch}
 use Rattle.bus.specs.declared.state.Devices.{Devices}
 use Rattle.bus.proofs.Kept.{picked, within-set, reg-set, csr0-set, reset-good}
 use Rattle.bus.proofs.Touched.{kept-length}
 use Rattle.cpu.proofs.Kept.{step-good}
 use Rattle.cpu.proofs.Touched.{step-changes}
 use Rattle.history.specs.Undo.{Touched}
-use Rattle.history.specs.Trace.{Box, Next, gives, Undo, undoOf}
-use Rattle.history.specs.Ring.{ring}
+use Rattle.history.specs.Trace.{Box, Next, refuses, gives, Undo, undoOf}
 use Rattle.history.proofs.PutBack.{touched-none, touched-one, touched-two}
 use Rattle.history.proofs.Exact.{Lawful, Ruly, Keeping}
 use Rattle.history.proofs.RingLaws.{keeping}
 use Rattle.records.specs.Record.{recordOf, decoded}
 use Rattle.calls.specs.Inputs.{Input, step, tick, receive, sent, setRegister, poke, resets, signalled, registerSet, nextOf, machine}
-use Rattle.calls.specs.Calls.{W, checkOf}
+use Rattle.calls.specs.Calls.{W, checkOf, journalOf}
 use Rattle.exact.specs.Demand3.{Fits}
 use Rattle.exact.proofs.Records.{Roomy, FineUndo, wide, reads}
+use Rattle.exact.proofs.Fixed.{Fixes, next-fixed}
 
 pub record GoodBox (b : Box Cpu) : Type 0 where
   pub cpu : Good (b .cpu)
@@ -98,7 +99,7 @@ module _ (b : Box Cpu) (g : GoodBox b) where
 
   starts : Lawful GoodBox b (nextOf resets b)
   unfolding nextOf
-  starts = quiet reset-good
+  starts = quiet (reset-good (b .cpu .board .stretch))
 
 pub lawful : (i : Input) (b : Box Cpu) → Fits i → GoodBox b → Lawful GoodBox b (nextOf i b)
 lawful step b f g = steps b g
@@ -112,17 +113,36 @@ lawful resets b f g = starts b g
 pub roomy : {c : Cpu} → Good c → Roomy c
 roomy r = record { regs16 = r .regs .long; csrs6 = r .csrs .long; rxd = r .board .devices .rxd }
 
-pub fines : (b : Box Cpu) (n a : ℕ) → GoodBox b → FineUndo (undoOf b n a)
-fines b zero a g = record { cpu = roomy (g .cpu); csr0 = g .cpu .csrs .csr0; count = omega arith; low = omega arith }
-fines b (suc zero) a g = record { cpu = roomy (g .cpu); csr0 = g .cpu .csrs .csr0; count = omega arith; low = g .bytes .at a }
-fines b (suc (suc n)) a g = record { cpu = roomy (g .cpu); csr0 = g .cpu .csrs .csr0; count = omega arith; low = g .bytes .at a }
+-- a good machine with the protected addresses p
+pub record GoodAt (p : Stretch) (b : Box Cpu) : Type 0 where
+  pub good : GoodBox b
+  pub stretch : b .cpu .board .stretch ≡ p
 
-abbrev pub ruly : Ruly machine FineUndo
-ruly = record { Good = GoodBox; Fits = Fits; stepping = tt; lawful = lawful; fines = fines }
+lawful-next : (p : Stretch) (b : Box Cpu) (x : Next Cpu) → b .cpu .board .stretch ≡ p → Fixes b x → Lawful GoodBox b x → Lawful (GoodAt p) b x
+unfolding Fixes
+lawful-next p b (refuses n) e f l = l
+lawful-next p b (gives y) e f l = (record { good = l .0; stretch = f ∙ e }, l .1)
+
+pub lawful-at : (p : Stretch) (i : Input) (b : Box Cpu) → Fits i → GoodAt p b → Lawful (GoodAt p) b (nextOf i b)
+lawful-at p i b f g = lawful-next p b (nextOf i b) (g .stretch) (next-fixed i b) (lawful i b f (g .good))
+
+pub fines : (p : Stretch) (b : Box Cpu) (n a : ℕ) → GoodAt p b → FineUndo p (undoOf b n a)
+fines p b n a g = go n
+  where
+    h : GoodBox b
+    h = g .good
+
+    go : (n : ℕ) → FineUndo p (undoOf b n a)
+    go zero = record { stretch = g .stretch; cpu = roomy (h .cpu); csr0 = h .cpu .csrs .csr0; count = omega arith; low = omega arith }
+    go (suc zero) = record { stretch = g .stretch; cpu = roomy (h .cpu); csr0 = h .cpu .csrs .csr0; count = omega arith; low = h .bytes .at a }
+    go (suc (suc n)) = record { stretch = g .stretch; cpu = roomy (h .cpu); csr0 = h .cpu .csrs .csr0; count = omega arith; low = h .bytes .at a }
+
+abbrev pub ruly : (p : Stretch) → Ruly machine (FineUndo p)
+ruly p = record { Good = GoodAt p; Fits = Fits; stepping = tt; lawful = lawful-at p; fines = fines p }
 
 -- the journal's laws, for n slots
-abbrev pub Slots : ℕ → Keeping (ring recordOf decoded) FineUndo
-Slots n = keeping recordOf decoded FineUndo wide reads n
+abbrev pub Slots : (p : Stretch) → ℕ → Keeping (journalOf p) (FineUndo p)
+Slots p n = keeping recordOf (decoded p) (FineUndo p) (wide p) (reads p) n
 
 next-fits : (n next : ℕ) → next ≤ n - 1 → (ltb next n || (eqb n 0 && eqb next 0)) ≡ true
 next-fits zero next h = rw (eq-eqb next 0 (omega arith)) (right-true (ltb next 0))
@@ -133,9 +153,9 @@ next-fits zero next h = rw (eq-eqb next 0 (omega arith)) (right-true (ltb next 0
 next-fits (suc n) next h = rw (lt-ltb next (suc n) (omega arith))
 
 -- where the state is good and the journal holds records, the first checks pass
-pub passes : (n : ℕ) → n ≤ 1024 → (w : W) (us : List (Undo Cpu)) → GoodBox (w .box) → Slots n .Holds (w .journal) us → checkOf w ≡ 0
+pub passes : (p : Stretch) (n : ℕ) → n ≤ 1024 → (w : W) (us : List (Undo Cpu)) → GoodBox (w .box) → Slots p n .Holds (w .journal) us → checkOf w ≡ 0
 unfolding checkOf
-passes n top w us g h =
+passes p n top w us g h =
     let j = w .journal in
     let e : length (j .words) / 32 ≡ n = omega (arith, h .sized) in
     rw (

@@ -1,4 +1,5 @@
 pub mod Records
+pub mod Fixed
 pub mod Lawful
 pub mod Single
 pub mod Counts

@@ -10,16 +10,16 @@ use lib.Dec.{T, leb, ltb, eqb, ltb→lt, leb→le, eqb→eq}
 use lib.ListN.{length}
 use Rattle.bus.specs.State.{word}
 use Rattle.bus.specs.declared.state.Cpu.{Cpu}
-use Rattle.history.specs.Trace.{Next, refuses, gives, Popped, denies, hands, Undo, Answer, Call, give, run, back, undoOf, guarded, gave, backed, after, stepped, ran, plain}
+use Rattle.bus.specs.declared.state.Stretch.{Stretch}
+use Rattle.history.specs.Trace.{Next, refuses, gives, Popped, denies, hands, Undo, Answer, Call, give, run, back, undoOf, guarded, gave, backed, stepped, ran, plain, answer}
 use Rattle.history.specs.Ring.{Ring, slots, slotBefore, slotWords, pushed, popped, poppedAt}
 use Rattle.history.proofs.Pushing.{push-in, push-out}
 use Rattle.history.proofs.RingLaws.{length-here, after-in}
 use Rattle.history.proofs.Runs.{number-ran}
 use Rattle.records.specs.Record.{recordWith, recordOf, decoded}
 use Rattle.calls.specs.Inputs.{Input, step, nextOf, stepsOf, machine}
-use Rattle.calls.specs.Calls.{W, ramFits, firstOf, checkOf, answerOf}
+use Rattle.calls.specs.Calls.{W, ramFits, firstOf, checkOf, stretchOf, journalOf, went, answerOf, plainOf}
 use Rattle.exact.specs.Fields.{Placed, PlacesWhole}
-use Rattle.exact.proofs.Counts.{journal}
 
 -- what the calls keep of a journal
 pub record Sits (j : Ring) : Type 0 where
@@ -87,55 +87,57 @@ Handed : Popped (Undo Cpu) Ring → Type 0
 Handed (denies n) = Unit {0}
 Handed (hands u j) = Sits j
 
-pop-sits : (k h : ℕ) (j : Ring) → k ≤ 1024 → Sits j → Handed (poppedAt decoded k h j)
-unfolding Handed
-pop-sits k zero j l s = tt
-pop-sits k (suc n) j l s = go (decoded (slotWords (j .words) k))
-  where
-    go : (x : Option (Undo Cpu)) → Handed (popped k x j)
-    go none = tt
-    go (some u) = record { size = s .size; next = l; held = omega (arith, s .held) }
-
--- ---- one call
 abbrev SitsIn : Answer Cpu Ring → Type 0
 SitsIn a = Sits (a .world .journal)
 
-gave-sits : (w : W) (s : ℕ) (x : Next Cpu) → Sits (w .journal) → SitsIn (gave machine journal w s x)
-gave-sits w s (refuses n) h = h
-gave-sits w s (gives e) h = push-sits _ (w .journal) (long (undoOf (w .box) (e .count) (e .first))) h
+-- by the journal of any protected addresses
+module _ (p : Stretch) where
+  pop-sits : (k h : ℕ) (j : Ring) → k ≤ 1024 → Sits j → Handed (poppedAt (decoded p) k h j)
+  unfolding Handed
+  pop-sits k zero j l s = tt
+  pop-sits k (suc n) j l s = go (decoded p (slotWords (j .words) k))
+    where
+      go : (x : Option (Undo Cpu)) → Handed (popped k x j)
+      go none = tt
+      go (some u) = record { size = s .size; next = l; held = omega (arith, s .held) }
 
-stepped-sits : (k : W → Answer Cpu Ring) (w : W) (x : Next Cpu) → ((v : W) → Sits (v .journal) → SitsIn (k v)) → Sits (w .journal)
-    → SitsIn (stepped machine journal k w x)
-stepped-sits k w (refuses n) f h = h
-stepped-sits k w (gives e) f h = f (after machine journal w e) (gave-sits w 0 (gives e) h)
+  -- ---- one call
+  gave-sits : (w : W) (s : ℕ) (x : Next Cpu) → Sits (w .journal) → SitsIn (gave machine (journalOf p) w s x)
+  gave-sits w s (refuses n) h = h
+  gave-sits w s (gives e) h = push-sits _ (w .journal) (long (undoOf (w .box) (e .count) (e .first))) h
 
-ran-sits : (n : ℕ) (w : W) → Sits (w .journal) → SitsIn (ran machine journal n w)
-ran-sits zero w h = h
-ran-sits (suc n) w h = stepped-sits (ran machine journal n) w (nextOf step (w .box)) (ran-sits n) h
+  stepped-sits : (k : W → Answer Cpu Ring) (w : W) (x : Next Cpu) → ((v : W) → Sits (v .journal) → SitsIn (k v)) → Sits (w .journal)
+      → SitsIn (stepped machine (journalOf p) k w x)
+  stepped-sits k w (refuses n) f h = h
+  stepped-sits k w (gives e) f h = f (went w e) (gave-sits w 0 (gives e) h)
 
-backed-sits : (w : W) (x : Popped (Undo Cpu) Ring) → Sits (w .journal) → Handed x → SitsIn (backed machine journal w x)
-unfolding Handed
-backed-sits w (denies n) h l = h
-backed-sits w (hands u j) h l = l
+  ran-sits : (n : ℕ) (w : W) → Sits (w .journal) → SitsIn (ran machine (journalOf p) n w)
+  ran-sits zero w h = h
+  ran-sits (suc n) w h = stepped-sits (ran machine (journalOf p) n) w (nextOf step (w .box)) (ran-sits n) h
 
-plain-sits : (c : Call Input) (w : W) → Sits (w .journal) → SitsIn (plain machine journal c w)
-plain-sits (give i) w h = gave-sits w (stepsOf i) (nextOf i (w .box)) h
-plain-sits (run n) w h = ran-sits n w h
-plain-sits back w h =
-    let j = w .journal in
-    backed-sits w (journal .pop j) h (pop-sits _ (j .held) j (before-small (slots (j .words)) (j .next) (omega (arith, h .size)) (h .next)) h)
+  backed-sits : (w : W) (x : Popped (Undo Cpu) Ring) → Sits (w .journal) → Handed x → SitsIn (backed machine (journalOf p) w x)
+  unfolding Handed
+  backed-sits w (denies n) h l = h
+  backed-sits w (hands u j) h l = l
+
+  plain-sits : (c : Call Input) (w : W) → Sits (w .journal) → SitsIn (plain machine (journalOf p) c w)
+  plain-sits (give i) w h = gave-sits w (stepsOf i) (nextOf i (w .box)) h
+  plain-sits (run n) w h = ran-sits n w h
+  plain-sits back w h =
+      let j = w .journal in
+      backed-sits w (journalOf p .pop j) h (pop-sits _ (j .held) j (before-small (slots (j .words)) (j .next) (omega (arith, h .size)) (h .next)) h)
 
 guarded-sits : (n : ℕ) (w : W) (a : Answer Cpu Ring) → Sits (w .journal) → SitsIn a → SitsIn (guarded n w a)
 guarded-sits zero w a h l = l
 guarded-sits (suc n) w a h l = h
 
-pub call-sits : (c : Call Input) (w : W) → Sits (w .journal) → SitsIn (answerOf c w)
-call-sits c w h = guarded-sits (checkOf w) w (plain machine journal c w) h (plain-sits c w h)
+pub call-sits : (p : Stretch) (c : Call Input) (w : W) → Sits (w .journal) → SitsIn (answer machine (journalOf p) checkOf c w)
+call-sits p c w h = guarded-sits (checkOf w) w (plain machine (journalOf p) c w) h (plain-sits p c w h)
 
 -- where checks 1 to 3 pass, next slot and records held are at most 1,024 after any call
 pub places : (c : Call Input) (w : W) → checkOf w ≡ 0 → Placed (answerOf c w .world .journal)
 places c w e =
-    let l = call-sits c w (checks-sit w e) in
+    let l = call-sits (stretchOf w) c w (checks-sit w e) in
     record { next = l .next; held = l .held }
 
 -- an accepted call passed the checks
@@ -146,25 +148,26 @@ accepted (suc n) w a e = absurd (omega arith)
 -- so the words that an accepted call rewrites hold them whole
 pub places-whole : (c : Call Input) (w : W) → answerOf c w .number ≡ 0 → PlacesWhole (answerOf c w .world .journal)
 places-whole c w e =
-    let p = places c w (accepted (checkOf w) w (plain machine journal c w) e) in
+    let p = places c w (accepted (checkOf w) w (plainOf c w) e) in
     record { next = omega (arith, p .next); held = omega (arith, p .held) }
 
 -- ---- a refusal
 abbrev Stays : W → Answer Cpu Ring → Type 0
 Stays w a = (a .number ≡ 0 → ⊥) → a .world ≡ w
 
-gave-stays : (w : W) (s : ℕ) (x : Next Cpu) → Stays w (gave machine journal w s x)
-gave-stays w s (refuses n) h = refl
-gave-stays w s (gives e) h = absurd (h refl)
+module _ (p : Stretch) where
+  gave-stays : (w : W) (s : ℕ) (x : Next Cpu) → Stays w (gave machine (journalOf p) w s x)
+  gave-stays w s (refuses n) h = refl
+  gave-stays w s (gives e) h = absurd (h refl)
 
-backed-stays : (w : W) (x : Popped (Undo Cpu) Ring) → Stays w (backed machine journal w x)
-backed-stays w (denies n) h = refl
-backed-stays w (hands u j) h = absurd (h refl)
+  backed-stays : (w : W) (x : Popped (Undo Cpu) Ring) → Stays w (backed machine (journalOf p) w x)
+  backed-stays w (denies n) h = refl
+  backed-stays w (hands u j) h = absurd (h refl)
 
-plain-stays : (c : Call Input) (w : W) → Stays w (plain machine journal c w)
-plain-stays (give i) w h = gave-stays w (stepsOf i) (nextOf i (w .box)) h
-plain-stays (run n) w h = absurd (h (number-ran machine journal n w))
-plain-stays back w h = backed-stays w (journal .pop (w .journal)) h
+  plain-stays : (c : Call Input) (w : W) → Stays w (plain machine (journalOf p) c w)
+  plain-stays (give i) w h = gave-stays w (stepsOf i) (nextOf i (w .box)) h
+  plain-stays (run n) w h = absurd (h (number-ran machine (journalOf p) n w))
+  plain-stays back w h = backed-stays w (journalOf p .pop (w .journal)) h
 
 guarded-stays : (n : ℕ) (w : W) (a : Answer Cpu Ring) → Stays w a → Stays w (guarded n w a)
 guarded-stays zero w a l h = l h
@@ -172,4 +175,4 @@ guarded-stays (suc n) w a l h = refl
 
 -- a refused call leaves the state, memory, next slot, records held and the journal's words as they were
 pub stays : (c : Call Input) (w : W) → (answerOf c w .number ≡ 0 → ⊥) → answerOf c w .world ≡ w
-stays c w h = guarded-stays (checkOf w) w (plain machine journal c w) (plain-stays c w) h
+stays c w h = guarded-stays (checkOf w) w (plainOf c w) (plain-stays (stretchOf w) c w) h

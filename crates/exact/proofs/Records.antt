@@ -1,6 +1,6 @@
 -- A record that the calls write has 32 words, and reads back as what was written.
 use Prim.Native.Nat.{ℕ, zero, suc, _≤_, _<_, _^_}
-use mathlib.Core.Path.{_≡_, refl, _∙_, ap}
+use mathlib.Core.Path.{_≡_, refl, sym, _∙_, ap}
 use mathlib.Core.List.{List, [], _∷_}
 use mathlib.Core.Option.{some, none}
 use mathlib.Core.Bool.{Bool, true, false, cond}
@@ -13,6 +13,7 @@ use Rattle.word.specs.Bits.{bitAt}
 use Rattle.word.proofs.Width.{low-join, high-join}
 use Rattle.bus.specs.State.{word}
 use Rattle.bus.specs.declared.state.Cpu.{Cpu}
+use Rattle.bus.specs.declared.state.Stretch.{Stretch}
 use Rattle.history.specs.Trace.{Undo}
 use Rattle.records.specs.Record.{part, marks, recordWith, recordOf, undoFrom, sound, decoded}
 
@@ -22,7 +23,9 @@ pub record Roomy (c : Cpu) : Type 0 where
   pub csrs6 : length (c .csrs) ≡ 6
   pub rxd : c .board .devices .rxd < 2 ^ 8
 
-pub record FineUndo (u : Undo Cpu) : Type 0 where
+-- a record that reads back, for a machine with the protected addresses p
+pub record FineUndo (p : Stretch) (u : Undo Cpu) : Type 0 where
+  pub stretch : u .cpu .board .stretch ≡ p
   pub cpu : Roomy (u .cpu)
   pub csr0 : word (u .cpu .csrs) 0 ≤ 511
   pub count : u .count ≤ 2
@@ -58,7 +61,7 @@ marked false false true = record { r-is = refl; t-is = refl; h-is = refl; small 
 marked false false false = record { r-is = refl; t-is = refl; h-is = refl; small = refl }
 
 -- what 32 words say, where they were written for it, also with numbers for which no record has room
-pub reads-undo : (u : Undo Cpu) → Roomy (u .cpu) → u .low < 2 ^ 8 → undoFrom (recordOf u) ≡ u
+pub reads-undo : (u : Undo Cpu) → Roomy (u .cpu) → u .low < 2 ^ 8 → undoFrom (u .cpu .board .stretch) (recordOf u) ≡ u
 unfolding recordWith undoFrom
 reads-undo u f low =
     let c = u .cpu in
@@ -75,7 +78,7 @@ reads-undo u f low =
       k .h-is,
     )
 
-module _ (u : Undo Cpu) (f : FineUndo u) where
+module _ (p : Stretch) (u : Undo Cpu) (f : FineUndo p u) where
   pub wide : length (recordOf u) ≡ 32
   unfolding recordWith
   wide = refl
@@ -84,6 +87,8 @@ module _ (u : Undo Cpu) (f : FineUndo u) where
   unfolding recordWith sound
   is-sound = rw (le-leb _ _ (f .csr0), marked (u .cpu .board .devices .r) (u .cpu .board .devices .t) (u .cpu .board .halted) .small, le-leb _ _ (f .count))
 
-  pub reads : decoded (recordOf u) ≡ some u
+  pub reads : decoded p (recordOf u) ≡ some u
   unfolding decoded
-  reads = ap (λ (b : Bool). cond b (some (undoFrom (recordOf u))) none) is-sound ∙ ap some (reads-undo u (f .cpu) (f .low))
+  reads =
+      ap (λ (b : Bool). cond b (some (undoFrom p (recordOf u))) none) is-sound
+      ∙ ap (λ (q : Stretch). some (undoFrom q (recordOf u))) (sym (f .stretch)) ∙ ap some (reads-undo u (f .cpu) (f .low))

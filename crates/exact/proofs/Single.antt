@@ -7,6 +7,7 @@ use mathlib.Core.List.{List}
 use lib.Dec.{eqb}
 use Rattle.bus.specs.Addresses.{Bus, bus}
 use Rattle.bus.specs.declared.state.Cpu.{Cpu}
+use Rattle.bus.specs.declared.state.Stretch.{Stretch}
 use Rattle.bus.specs.declared.state.Board.{Board}
 use Rattle.computing.specs.Instructions.{Moved, moves}
 use Rattle.memory.specs.Instructions.{Loaded, loads}
@@ -206,6 +207,6 @@ single-push j p p′ ws ws′ e e′ =
     (ap (λ (x : Ring). record { next = x .next; held = x .held }) q, ap (λ (x : Ring). x .words) q)
 
 -- for a record read (`records::decode`): all that it returns
-pub single-decode : (w : List ℕ) (r r′ : Before) → undoFrom w ≡ undoAs r → undoFrom w ≡ undoAs r′ → r ≡ r′
-single-decode w r r′ e e′ =
+pub single-decode : (p : Stretch) (w : List ℕ) (r r′ : Before) → undoFrom p w ≡ undoAs r → undoFrom p w ≡ undoAs r′ → r ≡ r′
+single-decode p w r r′ e e′ =
     ap (λ (u : Undo Cpu). record { cpu = u .cpu; count = u .count; first = u .first; low = u .low; high = u .high }) (sym e ∙ e′)

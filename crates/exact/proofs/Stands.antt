@@ -6,17 +6,18 @@ use mathlib.Core.List.{List, map}
 use native.Mathlib.Omega.{arith}
 use lib.Dec.{leb}
 use lib.ListN.{length}
+use Rattle.bus.specs.declared.state.Stretch.{Stretch}
 use Rattle.bus.proofs.Kept.{picked}
-use Rattle.history.specs.Trace.{Call, run, Left, leaves, upTo, guarded, one, ran}
+use Rattle.history.specs.Trace.{run, Left, leaves, upTo, guarded, one, ran}
 use Rattle.history.proofs.Runs.{number-ran}
 use Rattle.calls.specs.Inputs.{Input, step, machine}
-use Rattle.calls.specs.Calls.{W, checkOf}
+use Rattle.calls.specs.Calls.{W, checkOf, journalOf}
 use Rattle.entries.specs.Entries.{allKnown}
 use Rattle.entries.specs.declared.Entry.{Entry}
 use Rattle.watching.specs.Watched.{goes}
 use Rattle.watching.proofs.Beside.{goes-runs, goes-few}
 use Rattle.watched.specs.Answer.{Watched, told, listCheck, orElse, unlessRefused, watchedOf}
-use Rattle.exact.proofs.Counts.{journal, check-small}
+use Rattle.exact.proofs.Counts.{check-small}
 use Rattle.exact.proofs.Played.{P, at}
 
 module _ (n : ℕ) (l : List Entry) (w : W) where
@@ -24,21 +25,21 @@ module _ (n : ℕ) (l : List Entry) (w : W) where
   abbrev answer : ℕ → ℕ → Watched
   answer c d = unlessRefused (orElse c d) w l (told (goes n true l w) l)
 
-  pub stands : (k : ℕ) (i : Left Input) → let a = watchedOf n l w in
-      one machine journal checkOf (upTo k) (run (a .steps)) (at w i) ≡ at (a .world) (leaves (upTo k) step (run n) (a .number) (a .steps) i)
+  pub stands : (p : Stretch) (k : ℕ) (i : Left Input) → let a = watchedOf n l w in
+      one machine (journalOf p) checkOf (upTo k) (run (a .steps)) (at p w i) ≡ at p (a .world) (leaves (upTo k) step (run n) (a .number) (a .steps) i)
   unfolding watchedOf
-  stands k i = go (checkOf w) (listCheck l)
+  stands p k i = go (checkOf w) (listCheck l)
     where
-      played : ℕ → ℕ → P
-      played c s = let b = guarded c w (ran machine journal s w) in at (b .world) (leaves (upTo k) step (run s) (b .number) (b .steps) i)
+      played : ℕ → ℕ → P p
+      played c s = let b = guarded c w (ran machine (journalOf p) s w) in at p (b .world) (leaves (upTo k) step (run s) (b .number) (b .steps) i)
 
-      go : (c d : ℕ) → let a = answer c d in played c (a .steps) ≡ at (a .world) (leaves (upTo k) step (run n) (a .number) (a .steps) i)
+      go : (c d : ℕ) → let a = answer c d in played c (a .steps) ≡ at p (a .world) (leaves (upTo k) step (run n) (a .number) (a .steps) i)
       go (suc c) d = refl
       go zero (suc d) = refl
       go zero zero =
           let s = goes n true l w in
-          let r = goes-runs n true l w in
-          rw (number-ran machine journal (s .steps) w, r .steps, r .world)
+          let r = goes-runs p n true l w in
+          rw (number-ran machine (journalOf p) (s .steps) w, r .steps, r .world)
 
   -- a refusal leaves everything as it was
   pub unmoved : (watchedOf n l w .number ≡ 0 → ⊥) → watchedOf n l w .world ≡ w

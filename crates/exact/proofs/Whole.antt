@@ -7,10 +7,9 @@ use native.Mathlib.Omega.{arith}
 use borrow.Author.Tests.{ltb-true}
 use lib.ListN.{length}
 use Rattle.bus.specs.declared.state.Cpu.{Cpu}
-use Rattle.history.specs.Trace.{Effect, Next, refuses, gives, Answer, run, guarded, after, ran}
-use Rattle.history.specs.Ring.{Ring}
+use Rattle.history.specs.Trace.{Effect, Next, refuses, gives, run, guarded, ran}
 use Rattle.calls.specs.Inputs.{step, nextOf, machine}
-use Rattle.calls.specs.Calls.{W, checkOf}
+use Rattle.calls.specs.Calls.{W, checkOf, stretchOf, journalOf, went}
 use Rattle.entries.specs.Entries.{meets, anyOf, placeOf}
 use Rattle.entries.specs.declared.Entry.{Entry}
 use Rattle.entries.specs.declared.Met.{Met}
@@ -19,10 +18,10 @@ use Rattle.watching.specs.Watched.{Stop, stops, reached, stored, more, spent, c
 use Rattle.watching.specs.declared.Ending.{Ending}
 use Rattle.watching.specs.declared.Ending.the-variants.{Refused, Budget, Halted, Watch, Break}
 use Rattle.watching.proofs.Beside.{goes-runs, goes-few}
-use Rattle.watched.specs.Answer.{Watched, told, listCheck, orElse, unlessRefused, watchedOf}
+use Rattle.watched.specs.Answer.{told, listCheck, orElse, unlessRefused, watchedOf}
 use Rattle.watched.proofs.Answering.{passed}
 use Rattle.exact.specs.Fields.{WatchedWhole}
-use Rattle.exact.proofs.Counts.{journal, counts}
+use Rattle.exact.proofs.Counts.{counts}
 use Rattle.exact.proofs.Stands.{few-steps, small-number}
 
 -- ---- a watch and a break have met an entry
@@ -63,9 +62,9 @@ turn-meets on first l w (refuses n) h = tt
 turn-meets on first l w (gives e) h = go (not first && anyOf (meets (reached w)) l) refl
   where
     go : (t : Bool) → (not first && anyOf (meets (reached w)) l) ≡ t
-        → Meets l (cond t (stops 0 0 Break (reached w) w) (more e (watched on l e (after machine journal w e))))
+        → Meets l (cond t (stops 0 0 Break (reached w) w) (more e (watched on l e (went w e))))
     go true q = second (not first) (anyOf (meets (reached w)) l) q
-    go false q = watched-meets on l e (after machine journal w e) h
+    go false q = watched-meets on l e (went w e) h
 
 goes-meets : (n : ℕ) (first : Bool) (l : List Entry) (w : W) → Meets l (goes n first l w)
 goes-meets zero first l w = spent-meets l w (nextOf step (w .box))
@@ -109,8 +108,8 @@ module _ (n : ℕ) (l : List Entry) (w : W) where
         go zero e =
             let m : s .steps ≤ 65535 = omega (arith, goes-few n true l w, few) in
             let b = counts (run (s .steps)) w m .bus in
-            let q : guarded (checkOf w) w (ran machine journal (s .steps) w) .bus ≡ s .bus =
-            ap (λ (c : ℕ). guarded c w (ran machine journal (s .steps) w) .bus) (unchecked (checkOf w) (listCheck l) e) ∙ goes-runs n true l w .bus
+            let q : guarded (checkOf w) w (ran machine (journalOf (stretchOf w)) (s .steps) w) .bus ≡ s .bus =
+            ap (λ (c : ℕ). guarded c w (ran machine (journalOf (stretchOf w)) (s .steps) w) .bus) (unchecked (checkOf w) (listCheck l) e) ∙ goes-runs (stretchOf w) n true l w .bus
             in
             omega (arith, b, q)
         go (suc c) e = omega arith

@@ -7,11 +7,12 @@ use mathlib.Core.List.{List, [], _∷_}
 use mathlib.Core.Option.{some}
 use Rattle.word.specs.Word.{lowAt, highAt}
 use Rattle.bus.specs.State.{word, reset}
+use Rattle.bus.specs.declared.state.Stretch.{Stretch}
 use Rattle.history.specs.Trace.{Call, run, back, Left, leaves, upTo, ruled, backNumber}
 use Rattle.history.specs.Ring.{slots}
 use Rattle.calls.specs.Inputs.{Input, step, box, machine}
 use Rattle.calls.specs.Calls.{W, worldOf}
-use Rattle.boundary.specs.Boundary.{startWords, taken, Crosses}
+use Rattle.boundary.specs.Boundary.{startWords, stretchIn, taken, Crosses}
 use Rattle.entries.specs.declared.Entry.{Entry}
 use Rattle.crossing.specs.Crossing.{CrossesWatched}
 use Rattle.exact.specs.Demand3.{Typed}
@@ -81,18 +82,20 @@ leftOver n l (x ∷ xs) = leftOver n (leaves (upTo n) step (called x) (numberIn 
 abbrev pub leftIn : List ℕ → List Exported → Left Input
 leftIn ws xs = leftOver (slots ws) (record { inputs = []; held = 0 }) xs
 
--- the demand's "Start from reset, with memory and an empty journal": the start words, and any RAM and journal
-abbrev pub startOwned : List ℕ → List ℕ → Owned
-startOwned m ws = record { words = startWords; ram = m; journal = ws }
+-- the demand's "Start from reset, with memory and an empty journal": the start words, with any protected addresses (Q-4), and any RAM and journal
+abbrev pub startOwned : Stretch → List ℕ → List ℕ → Owned
+startOwned p m ws = record { words = startWords p; ram = m; journal = ws }
 
-abbrev pub ownedAtEnd : List ℕ → List ℕ → List Exported → Owned
-ownedAtEnd m ws xs = owned (startOwned m ws) xs
+abbrev pub ownedAtEnd : Stretch → List ℕ → List ℕ → List Exported → Owned
+ownedAtEnd p m ws xs = owned (startOwned p m ws) xs
 
-pub record Demand3Across (m ws : List ℕ) (xs : List Exported) : Type 0 where
+pub record Demand3Across (p : Stretch) (m ws : List ℕ) (xs : List Exported) : Type 0 where
   -- the demand: "registers, status registers, halted mark, devices and memory are what demand 2's rules give for the inputs not taken back, run in
   -- order from the start"
-  pub state : ruled machine (box reset m) (leftIn ws xs .inputs) ≡ some (meant (ownedAtEnd m ws xs) .box)
+  pub state : ruled machine (box (reset p) m) (leftIn ws xs .inputs) ≡ some (meant (ownedAtEnd p m ws xs) .box)
+  -- "read and given back as they came"
+  pub stretch : stretchIn (ownedAtEnd p m ws xs .words) ≡ p
   -- "26 records held"
-  pub held : word (ownedAtEnd m ws xs .words) 26 ≡ leftIn ws xs .held
+  pub held : word (ownedAtEnd p m ws xs .words) 26 ≡ leftIn ws xs .held
   -- the demand: "A step-back is refused exactly when no record is held": whatever `mb50_step_back` returns next, its number is 8 then, and else 0
-  pub refused : (r : ℕ) (o : Owned) → Kept back (ownedAtEnd m ws xs) r o → numberIn r ≡ backNumber (leftIn ws xs .held)
+  pub refused : (r : ℕ) (o : Owned) → Kept back (ownedAtEnd p m ws xs) r o → numberIn r ≡ backNumber (leftIn ws xs .held)

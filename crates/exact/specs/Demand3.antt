@@ -7,6 +7,7 @@ use lib.ListN.{length}
 use Rattle.bus.specs.State.{reset}
 use Rattle.bus.specs.Good.{Within}
 use Rattle.bus.specs.declared.state.Cpu.{Cpu}
+use Rattle.bus.specs.declared.state.Stretch.{Stretch}
 use Rattle.history.specs.Trace.{Answer, Call, give, run, back, Left, leaves, upTo, ruled, backNumber}
 use Rattle.history.specs.Ring.{Ring, slots}
 use Rattle.calls.specs.Inputs.{Input, step, tick, receive, sent, setRegister, poke, resets, box, machine}
@@ -92,13 +93,14 @@ abbrev pub left : List ℕ → List Made → Left Input
 left ws xs = leftBy (slots ws) (record { inputs = []; held = 0 }) xs
 
 -- "Start from reset, with memory and an empty journal .. After any mix of accepted inputs and step-backs"
-abbrev pub ended : List ℕ → List ℕ → List Made → W
-ended m ws xs = last started m ws xs
+abbrev pub ended : Stretch → List ℕ → List ℕ → List Made → W
+ended p m ws xs = last (started p) m ws xs
 
-pub record Demand3 (m ws : List ℕ) (xs : List Made) : Type 0 where
+-- for any protected addresses at the start (Q-4): "demands 2 and 3 read with the drop", which is the rules' own
+pub record Demand3 (p : Stretch) (m ws : List ℕ) (xs : List Made) : Type 0 where
   -- "registers, status registers, halted mark, devices and memory are what demand 2's rules give for the inputs not taken back, run in order
   -- from the start"
-  pub state : ruled machine (box reset m) (left ws xs .inputs) ≡ some (ended m ws xs .box)
-  pub held : ended m ws xs .journal .held ≡ left ws xs .held
+  pub state : ruled machine (box (reset p) m) (left ws xs .inputs) ≡ some (ended p m ws xs .box)
+  pub held : ended p m ws xs .journal .held ≡ left ws xs .held
   -- "A step-back is refused exactly when no record is held": with 8 then, and else with nothing, so that 1, 2, 3 and 9 never come up
-  pub refused : answerOf back (ended m ws xs) .number ≡ backNumber (left ws xs .held)
+  pub refused : answerOf back (ended p m ws xs) .number ≡ backNumber (left ws xs .held)

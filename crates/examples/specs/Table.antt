@@ -6,7 +6,7 @@ use mathlib.Core.Bool.{Bool, true, false}
 use mathlib.Core.List.{List, [], _∷_, map}
 use lib.ListN.{set}
 use Rattle.names.specs.Names.{bytes, IA, F, PC}
-use Rattle.bus.specs.State.{cpu, withHalted, reset}
+use Rattle.bus.specs.State.{cpu, withHalted, unprotected, reset}
 use Rattle.bus.specs.declared.state.Cpu.{Cpu}
 use Rattle.cpu.specs.Step.{stepOf}
 use Rattle.text.specs.Listing.{textOf}
@@ -30,10 +30,14 @@ pub record Example : Type 0 where
   pub given : Given
   pub seen : Seen
 
+-- the start, with no protected address
+abbrev pub start : Cpu
+start = reset unprotected
+
 -- r1, r2, ia, f, pc, csr0 and the halted mark; all else as at the start
 abbrev pub with : ℕ → ℕ → ℕ → ℕ → ℕ → ℕ → Bool → Cpu
 with r1 r2 ia f pc csr0 h =
-    cpu (set (set (set (set (set (reset .regs) 1 r1) 2 r2) IA ia) F f) PC pc) (set (reset .csrs) 0 csr0) (withHalted (reset .board) h)
+    cpu (set (set (set (set (set (start .regs) 1 r1) 2 r2) IA ia) F f) PC pc) (set (start .csrs) 0 csr0) (withHalted (start .board) h)
 
 -- an instruction at 0, "f, CSRs 0 and pc 0 unless given": r1, r2, f, csr0 and RAM before it, then r1, r2, f, csr0 and the halted mark; RAM stays,
 -- and pc is 2

@@ -13,10 +13,10 @@ ghost use mathlib.Core.Path.{_≡_};
 ghost use mathlib.Core.List.{List};
 ghost use Prim.Native.Nat.{ℕ};
 ghost use Rattle.history.specs.Trace.{give, gave};
-ghost use Rattle.history.specs.Ring.{ringOf, ring, pushed, slots};
-ghost use Rattle.records.specs.Record.{recordWith, recordOf, decoded};
+ghost use Rattle.history.specs.Ring.{ringOf, pushed, slots};
+ghost use Rattle.records.specs.Record.{recordWith};
 ghost use Rattle.calls.specs.Inputs.{Input, quietly, machine};
-ghost use Rattle.calls.specs.Calls.{worldOf, replied};
+ghost use Rattle.calls.specs.Calls.{journalOf, worldOf, replied};
 ghost use Rattle.calls.specs.Code.{Acts};
 
 // The record of an input, from the state before it.
@@ -28,7 +28,8 @@ fn keep(m: Machine, journal: &mut [u16], count: u8, first: u16, old: u16) -> Pla
     let g = c.regs;
     let k = c.csrs;
     let b = c.board;
-    let words = records::encode(g, k, b, count, first, old);
+    let v = b.devices;
+    let words = records::encode(g, k, v, b.halted, count, first, old);
     history::push(
         journal,
         Place {
@@ -41,7 +42,7 @@ fn keep(m: Machine, journal: &mut [u16], count: u8, first: u16, old: u16) -> Pla
 
 // An accepted input that writes nothing through memory.
 fn accept(m: Machine, c: Cpu, journal: &mut [u16]) -> Reply
-    ensures { λ r. ⌜ ((ram : List ℕ) → gave machine (ring recordOf decoded) (worldOf m ram (now (journal .entry))) 0 (quietly c ram) ≡ replied r ram (now (journal .exit))) ⌝ }
+    ensures { λ r. ⌜ ((ram : List ℕ) → gave machine (journalOf (m .cpu .board .stretch)) (worldOf m ram (now (journal .entry))) 0 (quietly c ram) ≡ replied r ram (now (journal .exit))) ⌝ }
 {
     let p = keep(m, journal, 0, 0, 0);
     Reply {
@@ -114,6 +115,8 @@ pub fn poke(m: Machine, ram: &mut [u8], journal: &mut [u16], address: u16, byte:
 pub fn reset(m: Machine, journal: &mut [u16]) -> Reply
     ensures { λ r. ⌜ ((ram : List ℕ) → Acts (give Input.resets) m ram (now (journal .entry)) r ram (now (journal .exit))) ⌝ }
 {
-    let fresh = bus::state::reset();
+    let before = m.cpu;
+    let board = before.board;
+    let fresh = bus::state::reset(board.stretch);
     accept(m, fresh, journal)
 }

@@ -1,10 +1,10 @@
-// Copies of the memory.
+// Copies of the memory, and marks at its bytes.
 use console::rows;
 ghost use mathlib.Core.Path.{_≡_};
 ghost use lib.ListN.{length};
 
-// Room for all RAM that there can be. Its `ensures` gives only the length, so that no proof writes the zeros out.
-fn room() -> [u8; 65504]
+// Room for all RAM that there can be, with no mark at any byte. Its `ensures` gives only the length, so that no proof writes the zeros out.
+pub fn room() -> [u8; 65504]
     ensures { λ r. ⌜ 65504 ≡ length r ⌝ }
 {
     [0u8; 65504]

@@ -8,6 +8,7 @@ use orders::Order;
 use orders::images;
 use panel::changes;
 use stopping::Deed;
+use stopping::dropped;
 use stops::list;
 use stops::list::Stops;
 use telling::causes;
@@ -29,11 +30,19 @@ fn made(
 }
 
 // What the calls did is told; what they changed is shown where the order is one that shows it.
-fn tell(order: Order, d: Deed, before: &[u16; 32], old: &[u8], state: &[u16; 32], ram: &[u8]) {
+fn tell(
+    order: Order,
+    d: Deed,
+    before: &[u16; 32],
+    old: &[u8],
+    state: &[u16; 32],
+    ram: &[u8],
+    marks: &[u8],
+) {
     let mut row = [b' '; 64];
     let n = causes::put(&mut row, stopping::seen(d, before, old, state, ram));
     if deeds::told(order, d.outcome, state, ram, words::front(&row, n)) {
-        changes::show(before, old, state, ram);
+        changes::show(before, old, state, ram, marks);
     }
 }
 
@@ -49,7 +58,10 @@ fn done(
     let before = *state;
     let old = copies::of(ram);
     let d = made(order, room, s, state, ram, journal);
-    tell(order, d, &before, &old, state, ram);
+    let mut marks = copies::room();
+    let steps = deeds::steps_told(order, d.outcome);
+    dropped::mark(&mut marks, steps, state, ram.len(), journal);
+    tell(order, d, &before, &old, state, ram, &marks);
     list::raised(s, d.met)
 }
 

@@ -54,7 +54,7 @@ fn between(before: &[u16; 32], after: &[u16; 32], copy: &mut [u8]) -> Input {
     if is_step(before, after, copy) {
         return inputs::stepped(before);
     }
-    let start = words::start();
+    let start = words::start(bus::state::unprotected());
     inputs::outside(before, after, &start)
 }
 

@@ -1,4 +1,5 @@
 // The overnight pen bench: a list of pens run through the firmware, one after the other. It writes a line for each pen.
+use bus::state::Stretch;
 use calls::state;
 use calls::state::Machine;
 use console::files::hold_standard;
@@ -192,8 +193,10 @@ fn run<'a>(
     today: &'a [u8],
     last_good: &'a [u8],
     setup: &[u16],
+    first: u16,
+    last: u16,
 ) {
-    let m = state::start();
+    let m = state::start(Stretch { first, last });
     let number = pens::refusal(m, ram, journal, setup);
     if number != 0 {
         given::refused(number, setup);
@@ -240,6 +243,8 @@ fn read(s: Settings, is_loaded: bool, setup: &[u16], ram: &mut [u8], journal: &m
             words::front(&today, b.length),
             words::front(&last_good, c.length),
             setup,
+            s.first,
+            s.last,
         );
     }
 }

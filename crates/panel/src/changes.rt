@@ -1,4 +1,4 @@
-// What a command changed: parts of the state, bytes of memory.
+// What a command changed: parts of the state, bytes of memory; and the bytes that it stored to and that stayed.
 use crate::parts;
 use crate::status;
 use console::words;
@@ -41,16 +41,27 @@ fn state(before: &[u16; 32], after: &[u16; 32]) -> bool {
     any
 }
 
+// What a byte holds that a store left as it was.
+fn stays(value: u8) {
+    report::space();
+    report::hex(value as u64, 2);
+    report::text(b" stays: protected");
+}
+
 fn one_byte(at: usize, old: u8, new: u8) {
     report::text(b"  ");
     place_name((at % 65536) as u16);
-    arrow(old as u16, new as u16, 2);
+    if old == new {
+        stays(old);
+    } else {
+        arrow(old as u16, new as u16, 2);
+    }
     report::end();
 }
 
-// One byte: how many have changed with it, so many having changed before it. The first ones are shown, the others counted.
-fn memory_byte(at: usize, old: u8, new: u8, before: usize) -> usize {
-    if old == new {
+// One byte: how many are to be told with it, so many having been before it. The first ones are shown, the others counted.
+fn memory_byte(at: usize, old: u8, new: u8, is_dropped: bool, before: usize) -> usize {
+    if (old == new) & !is_dropped {
         return before;
     }
     if before < 32 {
@@ -62,12 +73,13 @@ fn memory_byte(at: usize, old: u8, new: u8, before: usize) -> usize {
     before
 }
 
-// How many bytes changed.
-fn memory(old: &[u8], ram: &[u8]) -> usize {
+// How many bytes changed, or stayed where a store was dropped.
+fn memory(old: &[u8], ram: &[u8], dropped: &[u8]) -> usize {
     let mut n: usize = 0;
     let mut i: usize = 0;
     while i < ram.len() {
-        n = memory_byte(i, words::byte_at(old, i), ram[i], n);
+        let is_dropped = words::byte_at(dropped, i) != 0;
+        n = memory_byte(i, words::byte_at(old, i), ram[i], is_dropped, n);
         i += 1;
     }
     n
@@ -86,10 +98,10 @@ fn more(n: usize) {
     );
 }
 
-// What differs between the state before and after, and between the memory before and after.
-pub fn show(before: &[u16; 32], old: &[u8], after: &[u16; 32], ram: &[u8]) {
+// What differs between the state before and after, and between the memory before and after. `dropped` has a mark for each byte at which a store was dropped.
+pub fn show(before: &[u16; 32], old: &[u8], after: &[u16; 32], ram: &[u8], dropped: &[u8]) {
     let any = state(before, after);
-    let n = memory(old, ram);
+    let n = memory(old, ram, dropped);
     more(n);
     if !any & (n == 0) {
         report::text(b"  no change\n");

@@ -1,5 +1,6 @@
 // dump, dumpd, dumpw, dumpwd: a row shows 16 bytes as the processor reads them.
 use crate::parts;
+use crate::protection;
 use bus::address;
 use bus::state::Devices;
 use console::rows;
@@ -74,7 +75,9 @@ fn characters(row: &mut [u8], from: usize, v: Devices, ram: &[u8], at: u16) -> u
     p
 }
 
-fn one_row(f: Form, v: Devices, ram: &[u8], at: u16) {
+// The bytes or words, the characters beside bytes in hexadecimal, and what of them is protected.
+fn one_row(f: Form, state: &[u16; 32], ram: &[u8], at: u16) {
+    let v = parts::devices(state);
     let mut room = [b' '; 96];
     let row: &mut [u8] = &mut room;
     let p = rows::put_hex(row, 0, at, 4);
@@ -82,16 +85,17 @@ fn one_row(f: Form, v: Devices, ram: &[u8], at: u16) {
     if !f.is_words & !f.is_decimal {
         q = characters(row, q, v, ram, at);
     }
+    q = protection::put(row, q, state, ram.len(), at);
     let r = rows::put(row, q, b'\n');
     rows::write(row, r);
 }
 
 // So many rows; where the next one starts.
-fn all_rows(f: Form, v: Devices, ram: &[u8], from: u16, n: usize) -> u16 {
+fn all_rows(f: Form, state: &[u16; 32], ram: &[u8], from: u16, n: usize) -> u16 {
     let mut at = from;
     let mut i: usize = 0;
     while i < n {
-        one_row(f, v, ram, at);
+        one_row(f, state, ram, at);
         at = sums::plus(at, 16);
         i += 1;
     }
@@ -135,7 +139,6 @@ pub fn dump(last: Spot, f: Form, state: &[u16; 32], ram: &[u8], line: &[u8], at:
         return last;
     }
     let size = size_asked(last, a, n);
-    let v = parts::devices(state);
-    let next = all_rows(f, v, ram, a.value, rows_of(size));
+    let next = all_rows(f, state, ram, a.value, rows_of(size));
     Spot { at: next, size }
 }

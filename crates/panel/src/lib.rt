@@ -3,6 +3,7 @@ pub mod changes;
 pub mod code;
 pub mod dumps;
 pub mod parts;
+pub mod protection;
 pub mod refusals;
 pub mod registers;
 pub mod status;

@@ -11,14 +11,16 @@ use lib.Seq.{getD-drop}
 use Rattle.bus.specs.State.{word}
 use Rattle.bus.specs.Good.{Within}
 use Rattle.bus.specs.declared.state.Cpu.{Cpu}
+use Rattle.bus.specs.declared.state.Stretch.{Stretch}
 use Rattle.bus.proofs.Kept.{picked}
-use Rattle.history.specs.Trace.{Effect, Next, refuses, gives, Answer, answers, no-run, Call, give, run, back, Left, took, leaves, upTo, after, gave, guarded, one}
+use Rattle.history.specs.Trace.{Effect, Next, refuses, gives, Answer, answers, no-run, Call, give, run, back, Left, took, leaves, upTo, gave, guarded, one}
 use Rattle.history.specs.Ring.{Ring}
 use Rattle.calls.specs.Inputs.{Input, step, tick, receive, sent, setRegister, poke, resets, registerSet, stepsOf, nextOf, machine}
-use Rattle.calls.specs.Calls.{W, checkOf, answerOf, plainOf}
+use Rattle.calls.specs.Calls.{W, checkOf, answerOf, plainOf, stretchOf, journalOf, went}
 use Rattle.calls.proofs.Giving.{pokes, sets}
 use Rattle.entries.specs.Entries.{entry, meets, anyOf, allKnown}
 use Rattle.entries.specs.declared.Entry.{Entry}
+use Rattle.watching.proofs.Dropped.{landed-kind}
 use Rattle.watching.specs.Watched.{Stop, spent, caught, goes, turn, stored, reached}
 use Rattle.watching.specs.declared.Ending.{Ending}
 use Rattle.watching.specs.declared.Ending.the-variants.{Refused, Budget, Halted, Watch, Break}
@@ -34,7 +36,7 @@ use Rattle.pens.specs.Pen.{Penned, reported, nameCheck, firstCheck, penCheck, p
 use Rattle.pens.specs.Pen as Pen
 use Rattle.pens.proofs.Checks.{name-fits, none-of, registers, never, not-utf8-fine, not-latin-fine}
 use Rattle.exact.specs.Demand3.{Fits}
-use Rattle.exact.proofs.Counts.{journal}
+use Rattle.exact.proofs.Fixed.{fixed}
 use Rattle.exact.proofs.Played.{at, playing, AptCalls}
 use Rattle.pens_exact.specs.Cut.{Typed}
 use Rattle.pens_exact.specs.Nights.{named, leftByEach, AllAccepted, Accepted}
@@ -67,9 +69,9 @@ record Goes (n : ℕ) (i : Input) (w : W) : Type 0 where
   size : length (answerOf (give i) w .world .box .ram) ≡ n
 
 accepted : (i : Input) (w : W) (e : Effect Cpu) → Passing w → nextOf i (w .box) ≡ gives e
-    → answerOf (give i) w ≡ answers 0 (stepsOf i) (e .bus) no-run (after machine journal w e)
+    → answerOf (give i) w ≡ answers 0 (stepsOf i) (e .bus) no-run (went w e)
 accepted i w e p q =
-    ap (λ (c : ℕ). guarded c w (plainOf (give i) w)) (passes w p) ∙ ap (λ (x : Next Cpu). gave machine journal w (stepsOf i) x) q
+    ap (λ (c : ℕ). guarded c w (plainOf (give i) w)) (passes w p) ∙ ap (λ (x : Next Cpu). gave machine (journalOf (stretchOf w)) w (stepsOf i) x) q
 
 gone : (n : ℕ) (i : Input) (w : W) (e : Effect Cpu) → Passing w → nextOf i (w .box) ≡ gives e → Fits i → length (e .box .ram) ≡ n → Goes n i w
 gone n i w e p q f l =
@@ -92,31 +94,35 @@ goes-one n (receive x) w t l p = absurd t
 goes-one n sent w t l p = absurd t
 goes-one n resets w t l p = absurd t
 
-pub record AllGo (cs : List (Call Input)) (w : W) : Type 0 where
-  pub apt : AptCalls cs
+-- calls that a machine with the protected addresses s accepts, one after the other
+pub record AllGo (s : Stretch) (cs : List (Call Input)) (w : W) : Type 0 where
+  pub apt : AptCalls s cs
   pub each : AllAccepted cs w
   pub passing : Passing (made cs w)
-  pub plays : (k : ℕ) (l : Left Input) → playing k cs (at w l) ≡ at (made cs w) (leftByEach k cs l)
+  pub stretch : stretchOf (made cs w) ≡ s
+  pub plays : (k : ℕ) (l : Left Input) → playing s k cs (at s w l) ≡ at s (made cs w) (leftByEach k cs l)
 
-one-given : (i : Input) (w : W) (k : ℕ) (l : Left Input) → answerOf (give i) w .number ≡ 0
-    → one machine journal checkOf (upTo k) (give i) (at w l) ≡ at (answerOf (give i) w .world) (took (upTo k) i l)
-one-given i w k l e =
-    ap (λ (n : ℕ). at (answerOf (give i) w .world) (leaves (upTo k) step (give i) n (answerOf (give i) w .steps) l)) e
+one-given : (s : Stretch) (i : Input) (w : W) (k : ℕ) (l : Left Input) → stretchOf w ≡ s → answerOf (give i) w .number ≡ 0
+    → one machine (journalOf s) checkOf (upTo k) (give i) (at s w l) ≡ at s (answerOf (give i) w .world) (took (upTo k) i l)
+one-given s i w k l q e =
+    subst (λ (z : Stretch). one machine (journalOf z) checkOf (upTo k) (give i) (at z w l) ≡ at z (answerOf (give i) w .world) (took (upTo k) i l)) q
+    (ap (λ (n : ℕ). at (stretchOf w) (answerOf (give i) w .world) (leaves (upTo k) step (give i) n (answerOf (give i) w .steps) l)) e)
 
-pub all-go : (n : ℕ) (cs : List (Call Input)) (w : W) → AllAcceptable n cs → length (w .box .ram) ≡ n → Passing w → AllGo cs w
+pub all-go : (s : Stretch) (n : ℕ) (cs : List (Call Input)) (w : W) → stretchOf w ≡ s → AllAcceptable n cs → length (w .box .ram) ≡ n → Passing w → AllGo s cs w
 unfolding made
-all-go n [] w f l p = record { apt = tt; each = tt; passing = p; plays = λ k i. refl }
-all-go n (give i ∷ cs) w f l p =
+all-go s n [] w q f l p = record { apt = tt; each = tt; passing = p; stretch = q; plays = λ k i. refl }
+all-go s n (give i ∷ cs) w q f l p =
     let g = goes-one n i w (f .0) l p in
-    let r = all-go n cs (answerOf (give i) w .world) (f .1) (g .size) (g .passing) in
+    let r = all-go s n cs (answerOf (give i) w .world) (fixed (give i) w ∙ q) (f .1) (g .size) (g .passing) in
     record {
       apt = (g .fits, r .apt);
       each = (g .number, r .each);
       passing = r .passing;
-      plays = λ (k : ℕ) (l : Left Input). ap (playing k cs) (one-given i w k l (g .number)) ∙ r .plays k (took (upTo k) i l);
+      stretch = r .stretch;
+      plays = λ (k : ℕ) (l : Left Input). ap (playing s k cs) (one-given s i w k l q (g .number)) ∙ r .plays k (took (upTo k) i l);
     }
-all-go n (run k ∷ cs) w f l p = absurd (f .0)
-all-go n (back ∷ cs) w f l p = absurd (f .0)
+all-go s n (run k ∷ cs) w q f l p = absurd (f .0)
+all-go s n (back ∷ cs) w q f l p = absurd (f .0)
 
 -- ---- a pen's calls are such
 both-go : (n : ℕ) (cs ds : List (Call Input)) → AllAcceptable n cs → AllAcceptable n ds → AllAcceptable n (cs ++ ds)
@@ -192,9 +198,10 @@ module _ (h : Held) (name setup : List ℕ) (w : W) where
   judged-go NotUtf8 e f z = absurd (never h name setup w NotUtf8 e not-utf8-fine z)
   judged-go NotLatin e f z = absurd (never h name setup w NotLatin e not-latin-fine z)
 
-  pub pen-go : Within 16 setup → Typed (w .box .cpu) (w .box .ram) → penCheck h (judgedOf name) setup w ≡ 0 → AllGo (preparing setup name) w
-  pen-go f y z =
-      all-go (length (w .box .ram)) (preparing setup name) w (judged-go (judgedOf name) refl f z) refl (checked w y (check-zero z))
+  pub pen-go : (s : Stretch) → stretchOf w ≡ s → Within 16 setup → Typed (w .box .cpu) (w .box .ram) → penCheck h (judgedOf name) setup w ≡ 0
+      → AllGo s (preparing setup name) w
+  pen-go s q f y z =
+      all-go s (length (w .box .ram)) (preparing setup name) w q (judged-go (judgedOf name) refl f z) refl (checked w y (check-zero z))
 
 -- ---- its run
 known : (a : ℕ) → listCheck (entry a 1 0 ∷ []) ≡ 0
@@ -223,12 +230,12 @@ module _ (a : ℕ) where
 
   no-watch : (e : Effect Cpu) → anyOf (meets (stored e)) stop ≡ false
   unfolding anyOf
-  no-watch e = refl
+  no-watch e = rw (landed-kind (e .box .cpu .board .stretch) (length (e .box .ram)) (e .count) (e .first))
 
   turn-ends : (on : W → Stop) → ((w : W) → Ends (on w)) → (first : Bool) (w : W) (x : Next Cpu) → Ends (turn on first stop w x)
   turn-ends on f first w (refuses n) = tt
   turn-ends on f first w (gives e) =
-      let v = after machine journal w e in
+      let v = went w e in
       picked Ends (not first && anyOf (meets (reached w)) stop) tt
       (subst (λ (t : Bool). Ends (cond t (caught (stored e) v (nextOf step (v .box))) (on v))) (sym (no-watch e)) (f v))
 
@@ -257,7 +264,7 @@ pub accepted-calls : (line today last setup : List ℕ) (w : W) → Typed (w .bo
 unfolding penOf
 accepted-calls line today last setup w y f z =
     let name = named line today last in
-    let g = pen-go (heldOf line today last) name setup w f y (number-zero (heldOf line today last) name setup w z) in
+    let g = pen-go (heldOf line today last) name setup w (stretchOf w) refl f y (number-zero (heldOf line today last) name setup w z) in
     let r = run-goes setup (made (preparing setup name) w) (g .passing) in
     record { given = g .each; run = r .0; ends = r .1; unwatched = r .2 }
 

@@ -3,31 +3,39 @@ use Prim.Native.Nat.{ℕ, zero, suc, _+_}
 use mathlib.Core.Path.{_≡_, refl, sym, _∙_, ap}
 use mathlib.Core.List.{List}
 use Rattle.bus.specs.declared.state.Cpu.{Cpu}
+use Rattle.bus.specs.declared.state.Stretch.{Stretch}
 use Rattle.history.specs.Trace.{Answer, answers, run, guarded, ran}
 use Rattle.history.specs.Ring.{Ring}
 use Rattle.history.proofs.Runs.{number-ran, ran-cut}
 use Rattle.calls.specs.Inputs.{machine}
-use Rattle.calls.specs.Calls.{W, checkOf, answerOf, worldOf, replied}
+use Rattle.calls.specs.Calls.{W, checkOf, answerOf, worldOf, replied, stretchOf, journalOf}
 use Rattle.calls.specs.declared.state.Machine.{Machine as MachineT}
-use Rattle.exact.proofs.Counts.{journal}
+use Rattle.watching.proofs.Beside.{any-journal}
 use Rattle.exact.proofs.Single.{world-back}
 use Rattle.pens_exact.specs.Cut.{Typed, summed, Cuts, CutsCalls}
 use Rattle.pens_exact.proofs.Passing.{checked, passes, runs-on}
 
 module _ (n m : ℕ) (w : W) where
+  -- the plain run by the journal of these protected addresses
+  abbrev runs : Stretch → ℕ → W → Answer Cpu Ring
+  runs p k v = ran machine (journalOf p) k v
+
+  abbrev p : Stretch
+  p = stretchOf w
+
   -- the answers where the first check of the first call is c, and of the second d
   abbrev cut-by : ℕ → ℕ → Type 0
   cut-by c d =
-      let a = guarded c w (ran machine journal n w) in
-      guarded c w (ran machine journal (n + m) w) ≡ summed a (guarded d (a .world) (ran machine journal m (a .world)))
+      let a = guarded c w (runs p n w) in
+      guarded c w (runs p (n + m) w) ≡ summed a (guarded d (a .world) (runs (stretchOf (a .world)) m (a .world)))
 
   accepted : cut-by 0 0
   accepted =
-      ran-cut machine journal n m w
-      ∙ ap (λ (k : ℕ). answers k (ran machine journal n w .steps + ran machine journal m (ran machine journal n w .world) .steps)
-      (ran machine journal n w .bus + ran machine journal m (ran machine journal n w .world) .bus)
-      (ran machine journal m (ran machine journal n w .world) .cause) (ran machine journal m (ran machine journal n w .world) .world))
-      (sym (number-ran machine journal m (ran machine journal n w .world)))
+      let v = runs p n w .world in
+      ran-cut machine (journalOf p) n m w
+      ∙ ap (λ (k : ℕ). answers k (runs p n w .steps + runs p m v .steps) (runs p n w .bus + runs p m v .bus) (runs p m v .cause) (runs p m v .world))
+      (sym (number-ran machine (journalOf p) m v))
+      ∙ ap (summed (runs p n w)) (any-journal p (stretchOf v) m v)
 
   refused : (c : ℕ) → cut-by (suc c) (suc c)
   refused c = refl
@@ -37,8 +45,8 @@ module _ (n m : ℕ) (w : W) where
     where
       go : (c : ℕ) → checkOf w ≡ c → Cuts n m w
       go zero e =
-          let p = runs-on n w (checked w y e) in
-          rw (e, passes (ran machine journal n w .world) p) accepted
+          let h = runs-on p n w (checked w y e) in
+          rw (e, passes (runs p n w .world) h) accepted
       go (suc c) e = rw (e, e) (refused c)
 
 pub cut-calls : (n m : ℕ) (k : MachineT) (ram ws : List ℕ) → Typed (k .cpu) ram → CutsCalls n m k ram ws

@@ -5,10 +5,11 @@ use mathlib.Core.List.{List, [], _∷_, _++_}
 use native.Mathlib.Omega.{arith}
 use Rattle.bus.specs.Good.{Within}
 use Rattle.bus.specs.declared.state.Cpu.{Cpu}
-use Rattle.history.specs.Trace.{Box, Call, run, Left, leaves, upTo, one}
+use Rattle.bus.specs.declared.state.Stretch.{Stretch}
+use Rattle.history.specs.Trace.{Box, Call, run, back, Left, leaves, upTo, one, answer}
 use Rattle.history.specs.Ring.{slots}
 use Rattle.calls.specs.Inputs.{Input, step, machine}
-use Rattle.calls.specs.Calls.{W, checkOf, worldOf, started}
+use Rattle.calls.specs.Calls.{W, checkOf, worldOf, started, stretchOf, journalOf}
 use Rattle.calls.specs.declared.state.Machine.{Machine as MachineT}
 use Rattle.entries.specs.Entries.{entry}
 use Rattle.manifests.specs.Manifests.{heldOf, lines as linesIn}
@@ -17,26 +18,16 @@ use Rattle.pens.specs.Pen.{Penned, stopIn, budgetIn, preparing, made, matching,
 use Rattle.pens.specs.Code.{reportAs}
 use Rattle.pens.proofs.Checks.{accepts}
 use Rattle.exact.specs.Demand3.{Allowed}
-use Rattle.exact.proofs.Lawful.{GoodBox}
-use Rattle.exact.proofs.Counts.{journal}
+use Rattle.exact.proofs.Lawful.{GoodBox, GoodAt}
 use Rattle.exact.proofs.Played.{P, at, playing, starting, AptCalls, plays, reached}
 use Rattle.exact.proofs.Stands.{stands}
 use Rattle.exact.proofs.Seen.{calls, all-apt, played}
 use Rattle.pens_exact.specs.Cut.{Typed}
 use Rattle.pens_exact.specs.Nights.{Deed, done, pen, machineAfter, ramAfter, wordsAfter, Kept, Chain, last, named}
-use Rattle.pens_exact.specs.Nights.{leftByEach, leftByPen, leftByDeed, leftBy, Demand3Pens, Line, deedsOf, linesOf, reportsOf, reportFrom, answersOf, Demand3List}
+use Rattle.pens_exact.specs.Nights.{leftByEach, leftByPen, leftByDeed, leftBy, ended, Demand3Pens, Line, deedsOf, linesOf, reportsOf, reportFrom, answersOf, Demand3List}
 use Rattle.pens_exact.proofs.Accepted.{number-zero, pen-go, run-goes, refused-pen}
 
 -- ---- calls after calls
-pub play-on : (n : ℕ) (cs ds : List (Call Input)) (p : P) → playing n (cs ++ ds) p ≡ playing n ds (playing n cs p)
-play-on n [] ds p = refl
-play-on n (c ∷ cs) ds p = play-on n cs ds (one machine journal checkOf (upTo n) c p)
-
-pub apt-on : (cs ds : List (Call Input)) → AptCalls cs → AptCalls ds → AptCalls (cs ++ ds)
-apt-on [] ds f g = g
-apt-on (c ∷ cs) ds f g = (f .0, apt-on cs ds (f .1) g)
-
--- ---- an accepted pen
 pub typed : (b : Box Cpu) → GoodBox b → Typed (b .cpu) (b .ram)
 typed b g =
     record {
@@ -47,85 +38,101 @@ typed b g =
       bytes = g .bytes;
     }
 
--- calls that the rules play from p to q
-pub record Plays (n : ℕ) (p q : P) : Type 0 where
-  pub by : List (Call Input)
-  pub apt : AptCalls by
-  pub leads : playing n by p ≡ q
+-- for a machine that was started with the protected addresses s
+module _ (s : Stretch) where
+  pub play-on : (n : ℕ) (cs ds : List (Call Input)) (p : P s) → playing s n (cs ++ ds) p ≡ playing s n ds (playing s n cs p)
+  play-on n [] ds p = refl
+  play-on n (c ∷ cs) ds p = play-on n cs ds (one machine (journalOf s) checkOf (upTo n) c p)
 
-module _ (h : Held) (name setup : List ℕ) (w : W) where
-  -- the machine as the pen's run finds it
-  abbrev ready : W
-  ready = made (preparing setup name) w
+  pub apt-on : (cs ds : List (Call Input)) → AptCalls s cs → AptCalls s ds → AptCalls s (cs ++ ds)
+  apt-on [] ds f g = g
+  apt-on (c ∷ cs) ds f g = (f .0, apt-on cs ds (f .1) g)
 
-  -- its pokes, its given registers, and a plain run of its run's steps
-  pen-plays : Within 16 setup → GoodBox (w .box) → penNamed h name setup w .number ≡ 0 → (n : ℕ) (l : Left Input)
-      → Plays n (at w l) (at (penNamed h name setup w .world) (leftByPen n setup name 0 (penNamed h name setup w .steps) l))
-  pen-plays f g e n l =
-      let z = number-zero h name setup w e in
-      let c = pen-go h name setup w f (typed (w .box) g) z in
-      let a = matching setup ready in
-      let i = leftByEach n (preparing setup name) l in
+  -- ---- an accepted pen
+  -- calls that the rules play from p to q
+  pub record Plays (n : ℕ) (p q : P s) : Type 0 where
+    pub by : List (Call Input)
+    pub apt : AptCalls s by
+    pub leads : playing s n by p ≡ q
+
+  module _ (h : Held) (name setup : List ℕ) (w : W) where
+    -- the machine as the pen's run finds it
+    abbrev ready : W
+    ready = made (preparing setup name) w
+
+    -- its pokes, its given registers, and a plain run of its run's steps
+    pen-plays : Within 16 setup → GoodAt s (w .box) → penNamed h name setup w .number ≡ 0 → (n : ℕ) (l : Left Input)
+        → Plays n (at s w l) (at s (penNamed h name setup w .world) (leftByPen n setup name 0 (penNamed h name setup w .steps) l))
+    pen-plays f g e n l =
+        let z = number-zero h name setup w e in
+        let c = pen-go h name setup w s (g .stretch) f (typed (w .box) (g .good)) z in
+        let a = matching setup ready in
+        let i = leftByEach n (preparing setup name) l in
+        record {
+          by = preparing setup name ++ (run (a .steps) ∷ []);
+          apt = apt-on (preparing setup name) (run (a .steps) ∷ []) (c .apt) (tt, tt);
+          leads =
+              play-on n (preparing setup name) (run (a .steps) ∷ []) (at s w l)
+              ∙ ap (playing s n (run (a .steps) ∷ [])) (c .plays n l)
+              ∙ stands (budgetIn setup) (entry (stopIn setup) 1 0 ∷ []) ready s n i
+              ∙ ap (λ (k : ℕ). at s (a .world) (leaves (upTo n) step (run (budgetIn setup)) k (a .steps) i)) (run-goes setup ready (c .passing) .0)
+              ∙ ap (λ (x : Penned). at s (x .world) (leftByPen n setup name 0 (x .steps) l)) (sym (accepts h name setup w z));
+        }
+
+  -- ---- deed after deed
+  module _ (m₀ ws₀ : List ℕ) (ok : Allowed m₀ ws₀) where
+    abbrev pub Reaches : P s → Type 0
+    Reaches p = Plays (slots ws₀) (starting s m₀ ws₀) p
+
+    pub further : {p q : P s} → Reaches p → Plays (slots ws₀) p q → Reaches q
+    further {p} {q} r t =
+        record {
+          by = r .by ++ t .by;
+          apt = apt-on (r .by) (t .by) (r .apt) (t .apt);
+          leads = play-on (slots ws₀) (r .by) (t .by) (starting s m₀ ws₀) ∙ ap (playing s (slots ws₀) (t .by)) (r .leads) ∙ t .leads;
+        }
+
+    pub good : (w : W) (l : Left Input) → Reaches (at s w l) → GoodAt s (w .box)
+    good w l r = subst (λ (p : P s). GoodAt s (p .world .box)) (r .leads) (reached s m₀ ws₀ (r .by) ok (r .apt) .good)
+
+    pub pen-on : (line today old setup : List ℕ) (w v : W) (number steps : ℕ) (l : Left Input) → Within 16 setup → Reaches (at s w l)
+        → penOf line today old setup w .number ≡ number → penOf line today old setup w .steps ≡ steps → penOf line today old setup w .world ≡ v
+        → Reaches (at s v (leftByPen (slots ws₀) setup (named line today old) number steps l))
+    unfolding penOf
+    pen-on line today old setup w v zero steps l f r e t q =
+        let h = heldOf line today old in
+        let name = named line today old in
+        let z = further r (pen-plays h name setup w f (good w l r) e (slots ws₀) l) in
+        subst (λ (x : W). Reaches (at s x (leftByPen (slots ws₀) setup name 0 steps l))) q
+        (subst (λ (k : ℕ). Reaches (at s (penNamed h name setup w .world) (leftByPen (slots ws₀) setup name 0 k l))) t z)
+    pen-on line today old setup w v (suc number) steps l f r e t q =
+        subst (λ (x : W). Reaches (at s x l)) (sym (refused-pen line today old setup w (λ z. absurd (omega (arith, e, z)))) ∙ q) r
+
+    deed-on : (m : MachineT) (ram ws : List ℕ) (l : Left Input) (x : Deed) → Kept m ram ws x → Reaches (at s (worldOf m ram ws) l)
+        → Reaches (at s (worldOf (machineAfter x) (ramAfter x) (wordsAfter x)) (leftByDeed (slots ws₀) x l))
+    deed-on m ram ws l (done x) k r =
+        further r
+        (record { by = calls (x ∷ []); apt = all-apt s m ram ws (x ∷ []) (k, tt); leads = played s (slots ws₀) m ram ws l (x ∷ []) (good (worldOf m ram ws) l r .stretch) (k, tt) })
+    deed-on m ram ws l (pen line today old setup p ram′ ws′) k r =
+        pen-on line today old setup (worldOf m ram ws) (worldOf (p .machine) ram′ ws′) (p .number) (p .steps) l (k .0) r
+        (ap (λ (a : Penned). a .number) (k .1)) (ap (λ (a : Penned). a .steps) (k .1)) (ap (λ (a : Penned). a .world) (k .1))
+
+    all-on : (m : MachineT) (ram ws : List ℕ) (l : Left Input) (xs : List Deed) → Chain m ram ws xs → Reaches (at s (worldOf m ram ws) l)
+        → Reaches (at s (last m ram ws xs) (leftBy (slots ws₀) l xs))
+    all-on m ram ws l [] ch r = r
+    all-on m ram ws l (x ∷ xs) ch r =
+        all-on (machineAfter x) (ramAfter x) (wordsAfter x) (leftByDeed (slots ws₀) x l) xs (ch .1) (deed-on m ram ws l x (ch .0) r)
+
+  pub demand3-pens : (m ws : List ℕ) (xs : List Deed) → Allowed m ws → Chain (started s) m ws xs → Demand3Pens s m ws xs
+  demand3-pens m ws xs ok ch =
+      let r = all-on m ws ok (started s) m ws (record { inputs = []; held = 0 }) xs ch (record { by = []; apt = tt; leads = refl }) in
+      let f = rw (r .leads) at (plays s m ws ok (r .by) (r .apt)) in
+      let q : stretchOf (ended s m ws xs) ≡ s = good m ws ok (ended s m ws xs) _ r .stretch in
       record {
-        by = preparing setup name ++ (run (a .steps) ∷ []);
-        apt = apt-on (preparing setup name) (run (a .steps) ∷ []) (c .apt) (tt, tt);
-        leads =
-            play-on n (preparing setup name) (run (a .steps) ∷ []) (at w l)
-            ∙ ap (playing n (run (a .steps) ∷ [])) (c .plays n l)
-            ∙ stands (budgetIn setup) (entry (stopIn setup) 1 0 ∷ []) ready n i
-            ∙ ap (λ (k : ℕ). at (a .world) (leaves (upTo n) step (run (budgetIn setup)) k (a .steps) i)) (run-goes setup ready (c .passing) .0)
-            ∙ ap (λ (x : Penned). at (x .world) (leftByPen n setup name 0 (x .steps) l)) (sym (accepts h name setup w z));
+        state = f .state;
+        held = f .held;
+        refused = ap (λ (z : Stretch). answer machine (journalOf z) checkOf back (ended s m ws xs) .number) q ∙ f .refused;
       }
-
--- ---- deed after deed
-module _ (m₀ ws₀ : List ℕ) (ok : Allowed m₀ ws₀) where
-  abbrev pub Reaches : P → Type 0
-  Reaches p = Plays (slots ws₀) (starting m₀ ws₀) p
-
-  pub further : {p q : P} → Reaches p → Plays (slots ws₀) p q → Reaches q
-  further {p} {q} r s =
-      record {
-        by = r .by ++ s .by;
-        apt = apt-on (r .by) (s .by) (r .apt) (s .apt);
-        leads = play-on (slots ws₀) (r .by) (s .by) (starting m₀ ws₀) ∙ ap (playing (slots ws₀) (s .by)) (r .leads) ∙ s .leads;
-      }
-
-  pub good : (w : W) (l : Left Input) → Reaches (at w l) → GoodBox (w .box)
-  good w l r = subst (λ (p : P). GoodBox (p .world .box)) (r .leads) (reached m₀ ws₀ (r .by) ok (r .apt) .good)
-
-  pub pen-on : (line today old setup : List ℕ) (w v : W) (number steps : ℕ) (l : Left Input) → Within 16 setup → Reaches (at w l)
-      → penOf line today old setup w .number ≡ number → penOf line today old setup w .steps ≡ steps → penOf line today old setup w .world ≡ v
-      → Reaches (at v (leftByPen (slots ws₀) setup (named line today old) number steps l))
-  unfolding penOf
-  pen-on line today old setup w v zero steps l f r e s q =
-      let h = heldOf line today old in
-      let name = named line today old in
-      let t = further r (pen-plays h name setup w f (good w l r) e (slots ws₀) l) in
-      subst (λ (x : W). Reaches (at x (leftByPen (slots ws₀) setup name 0 steps l))) q
-      (subst (λ (k : ℕ). Reaches (at (penNamed h name setup w .world) (leftByPen (slots ws₀) setup name 0 k l))) s t)
-  pen-on line today old setup w v (suc number) steps l f r e s q =
-      subst (λ (x : W). Reaches (at x l)) (sym (refused-pen line today old setup w (λ z. absurd (omega (arith, e, z)))) ∙ q) r
-
-  deed-on : (m : MachineT) (ram ws : List ℕ) (l : Left Input) (x : Deed) → Kept m ram ws x → Reaches (at (worldOf m ram ws) l)
-      → Reaches (at (worldOf (machineAfter x) (ramAfter x) (wordsAfter x)) (leftByDeed (slots ws₀) x l))
-  deed-on m ram ws l (done x) k r =
-      further r
-      (record { by = calls (x ∷ []); apt = all-apt m ram ws (x ∷ []) (k, tt); leads = played (slots ws₀) m ram ws l (x ∷ []) (k, tt) })
-  deed-on m ram ws l (pen line today old setup p ram′ ws′) k r =
-      pen-on line today old setup (worldOf m ram ws) (worldOf (p .machine) ram′ ws′) (p .number) (p .steps) l (k .0) r
-      (ap (λ (a : Penned). a .number) (k .1)) (ap (λ (a : Penned). a .steps) (k .1)) (ap (λ (a : Penned). a .world) (k .1))
-
-  all-on : (m : MachineT) (ram ws : List ℕ) (l : Left Input) (xs : List Deed) → Chain m ram ws xs → Reaches (at (worldOf m ram ws) l)
-      → Reaches (at (last m ram ws xs) (leftBy (slots ws₀) l xs))
-  all-on m ram ws l [] ch r = r
-  all-on m ram ws l (x ∷ xs) ch r =
-      all-on (machineAfter x) (ramAfter x) (wordsAfter x) (leftByDeed (slots ws₀) x l) xs (ch .1) (deed-on m ram ws l x (ch .0) r)
-
-pub demand3-pens : (m ws : List ℕ) (xs : List Deed) → Allowed m ws → Chain started m ws xs → Demand3Pens m ws xs
-demand3-pens m ws xs ok ch =
-    let r = all-on m ws ok started m ws (record { inputs = []; held = 0 }) xs ch (record { by = []; apt = tt; leads = refl }) in
-    let f = rw (r .leads) at (plays m ws ok (r .by) (r .apt)) in
-    record { state = f .state; held = f .held; refused = f .refused }
 
 -- ---- a list of pens is such a chain: it ends where the rules' list ends, and tells what that tells
 module _ (today old setup : List ℕ) where
@@ -160,14 +167,14 @@ module _ (today old setup : List ℕ) where
   lines-are [] w = refl
   lines-are (l ∷ ls) w = ap (λ (t : List (List ℕ)). l ∷ t) (lines-are ls (penOf l today old setup w .world))
 
-  pub demand3-list : (m ws lines : List ℕ) → Allowed m ws → Within 16 setup → Demand3List m ws lines today old setup
-  demand3-list m ws lines ok f =
+  pub demand3-list : (s : Stretch) (m ws lines : List ℕ) → Allowed m ws → Within 16 setup → Demand3List s m ws lines today old setup
+  demand3-list s m ws lines ok f =
       let ls = linesIn lines in
-      let ps = answersOf today old setup ls (worldOf started m ws) in
-      let c = answers-chain ls f started m ws in
+      let ps = answersOf today old setup ls (worldOf (started s) m ws) in
+      let c = answers-chain ls f (started s) m ws in
       record {
-        demand = demand3-pens m ws (deedsOf today old setup ps) ok c;
+        demand = demand3-pens s m ws (deedsOf today old setup ps) ok c;
         after =
-            after-pens started m ws ps c
-            ∙ ap (λ (t : List (List ℕ)). afterPens t today old setup (worldOf started m ws)) (lines-are ls (worldOf started m ws));
+            after-pens (started s) m ws ps c
+            ∙ ap (λ (t : List (List ℕ)). afterPens t today old setup (worldOf (started s) m ws)) (lines-are ls (worldOf (started s) m ws));
       }

@@ -10,16 +10,16 @@ use lib.Dec.{T, leb, ltb, eqb, ltb→lt, leb→le, eqb→eq}
 use lib.ListN.{length}
 use Rattle.bus.specs.State.{word}
 use Rattle.bus.specs.declared.state.Cpu.{Cpu}
-use Rattle.history.specs.Trace.{Effect, Next, refuses, gives, Undo, undoOf, after, stepped, ran}
+use Rattle.bus.specs.declared.state.Stretch.{Stretch}
+use Rattle.history.specs.Trace.{Effect, Next, refuses, gives, Undo, undoOf, stepped, ran}
 use Rattle.history.specs.Ring.{Ring, slots, pushed}
 use Rattle.history.proofs.Exact.{Lawful}
 use Rattle.history.proofs.Pushing.{push-in, push-out}
 use Rattle.history.proofs.RingLaws.{length-here, after-in}
 use Rattle.records.specs.Record.{recordWith, recordOf}
 use Rattle.calls.specs.Inputs.{Input, step, nextOf, machine}
-use Rattle.calls.specs.Calls.{W, ramFits, firstOf, checkOf}
+use Rattle.calls.specs.Calls.{W, ramFits, firstOf, checkOf, journalOf, went}
 use Rattle.exact.specs.Demand3.{Fits}
-use Rattle.exact.proofs.Counts.{journal}
 use Rattle.exact.proofs.Lawful.{GoodBox, lawful}
 use Rattle.pens_exact.specs.Cut.{Typed}
 
@@ -129,18 +129,20 @@ push-sound r j l s = go (decLt (j .next) n)
 lawful-next : (i : Input) (w : W) (x : Next Cpu) → nextOf i (w .box) ≡ x → Fits i → Passing w → Lawful GoodBox (w .box) x
 lawful-next i w x q f p = rw q at (lawful i (w .box) f (p .good))
 
-pub taken : (i : Input) (w : W) (e : Effect Cpu) → nextOf i (w .box) ≡ gives e → Fits i → Passing w → Passing (after machine journal w e)
+pub taken : (i : Input) (w : W) (e : Effect Cpu) → nextOf i (w .box) ≡ gives e → Fits i → Passing w → Passing (went w e)
 taken i w e q f p =
     record {
       good = lawful-next i w (gives e) q f p .0;
       sound = push-sound (recordOf (undoOf (w .box) (e .count) (e .first))) (w .journal) (long (undoOf (w .box) (e .count) (e .first))) (p .sound);
     }
 
-stepped-on : (n : ℕ) → ((w : W) → Passing w → Passing (ran machine journal n w .world)) → (w : W) (x : Next Cpu) → nextOf step (w .box) ≡ x → Passing w
-    → Passing (stepped machine journal (ran machine journal n) w x .world)
-stepped-on n ih w (refuses k) q p = p
-stepped-on n ih w (gives e) q p = ih (after machine journal w e) (taken step w e q tt p)
+-- by the journal of any protected addresses
+module _ (p : Stretch) where
+  stepped-on : (n : ℕ) → ((w : W) → Passing w → Passing (ran machine (journalOf p) n w .world)) → (w : W) (x : Next Cpu) → nextOf step (w .box) ≡ x → Passing w
+      → Passing (stepped machine (journalOf p) (ran machine (journalOf p) n) w x .world)
+  stepped-on n ih w (refuses k) q h = h
+  stepped-on n ih w (gives e) q h = ih (went w e) (taken step w e q tt h)
 
-pub runs-on : (n : ℕ) (w : W) → Passing w → Passing (ran machine journal n w .world)
-runs-on zero w p = p
-runs-on (suc n) w p = stepped-on n (runs-on n) w (nextOf step (w .box)) refl p
+  pub runs-on : (n : ℕ) (w : W) → Passing w → Passing (ran machine (journalOf p) n w .world)
+  runs-on zero w h = h
+  runs-on (suc n) w h = stepped-on n (runs-on n) w (nextOf step (w .box)) refl h

@@ -10,7 +10,7 @@ use Rattle.word.specs.Word.{lowAt}
 use Rattle.bus.specs.State.{word}
 use Rattle.bus.specs.Good.{Within}
 use Rattle.bus.proofs.Kept.{picked}
-use Rattle.calls.specs.Calls.{W, checkOf}
+use Rattle.calls.specs.Calls.{W, checkOf, stretchOf}
 use Rattle.entries.specs.Entries.{entry}
 use Rattle.watching.specs.Watched.{goes}
 use Rattle.watching.specs.declared.Ending.{Ending}
@@ -73,8 +73,8 @@ cause-whole Break = refl
 run-passes : (setup : List ℕ) (w : W) → Passing w → Passing (matching setup w .world)
 run-passes setup w p =
     let s = goes (budgetIn setup) true (entry (stopIn setup) 1 0 ∷ []) w in
-    subst Passing (goes-runs (budgetIn setup) true (entry (stopIn setup) 1 0 ∷ []) w .world ∙ ap (λ (a : Watched). a .world) (sym (run-told setup w p)))
-    (runs-on (s .steps) w p)
+    subst Passing (goes-runs (stretchOf w) (budgetIn setup) true (entry (stopIn setup) 1 0 ∷ []) w .world ∙ ap (λ (a : Watched). a .world) (sym (run-told setup w p)))
+    (runs-on (stretchOf w) (s .steps) w p)
 
 named-whole : (h : Held) (name setup : List ℕ) (w : W) → Typed (w .box .cpu) (w .box .ram) → Within 16 setup → PenWhole (penNamed h name setup w)
 unfolding penNamed
@@ -85,7 +85,7 @@ named-whole h name setup w y f = go (penCheck h (judgedOf name) setup w) refl
 
     go : (k : ℕ) → penCheck h (judgedOf name) setup w ≡ k → PenWhole (unlessRefused k h w (reported h (matching setup ready)))
     go zero e =
-        let p = run-passes setup ready (pen-go h name setup w f y e .passing) in
+        let p = run-passes setup ready (pen-go h name setup w (stretchOf w) refl f y e .passing) in
         let few : budgetIn setup ≤ 65535 = omega (arith, f .at 2) in
         record {
           number = refl;

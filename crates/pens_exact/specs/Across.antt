@@ -6,9 +6,11 @@ use mathlib.Core.List.{List, [], _∷_}
 use mathlib.Core.Option.{some}
 use Rattle.bus.specs.State.{word, reset}
 use Rattle.bus.specs.Good.{Within}
+use Rattle.bus.specs.declared.state.Stretch.{Stretch}
 use Rattle.history.specs.Trace.{back, Left, leaves, upTo, ruled, backNumber}
 use Rattle.history.specs.Ring.{slots}
 use Rattle.calls.specs.Inputs.{Input, step, box, machine}
+use Rattle.boundary.specs.Boundary.{stretchIn}
 use Rattle.pens.specs.Pen.{penOf}
 use Rattle.pen_crossing.specs.Crossing.{CrossesPen}
 use Rattle.exact.specs.Boundary3.{numberIn, stepsIn, Owned, meant, Kept, Exported, startOwned}
@@ -50,16 +52,18 @@ abbrev pub leftOver : ℕ → Owned → Left Input → List Crossing → Left In
 leftOver n o l [] = l
 leftOver n o l (x ∷ xs) = leftOver n (ownedAfter x) (leftBy n o x l) xs
 
-abbrev pub leftIn : List ℕ → List ℕ → List Crossing → Left Input
-leftIn m ws xs = leftOver (slots ws) (startOwned m ws) (record { inputs = []; held = 0 }) xs
+abbrev pub leftIn : Stretch → List ℕ → List ℕ → List Crossing → Left Input
+leftIn p m ws xs = leftOver (slots ws) (startOwned p m ws) (record { inputs = []; held = 0 }) xs
 
-abbrev pub ownedAtEnd : List ℕ → List ℕ → List Crossing → Owned
-ownedAtEnd m ws xs = owned (startOwned m ws) xs
+abbrev pub ownedAtEnd : Stretch → List ℕ → List ℕ → List Crossing → Owned
+ownedAtEnd p m ws xs = owned (startOwned p m ws) xs
 
-pub record Demand3PensAcross (m ws : List ℕ) (xs : List Crossing) : Type 0 where
+pub record Demand3PensAcross (p : Stretch) (m ws : List ℕ) (xs : List Crossing) : Type 0 where
   -- "registers, status registers, halted mark, devices and memory are what demand 2's rules give for the inputs not taken back, run in order from the start"
-  pub state : ruled machine (box reset m) (leftIn m ws xs .inputs) ≡ some (meant (ownedAtEnd m ws xs) .box)
+  pub state : ruled machine (box (reset p) m) (leftIn p m ws xs .inputs) ≡ some (meant (ownedAtEnd p m ws xs) .box)
+  -- "read and given back as they came"
+  pub stretch : stretchIn (ownedAtEnd p m ws xs .words) ≡ p
   -- "26 records held"
-  pub held : word (ownedAtEnd m ws xs .words) 26 ≡ leftIn m ws xs .held
+  pub held : word (ownedAtEnd p m ws xs .words) 26 ≡ leftIn p m ws xs .held
   -- "A step-back is refused exactly when no record is held"
-  pub refused : (r : ℕ) (o : Owned) → Kept back (ownedAtEnd m ws xs) r o → numberIn r ≡ backNumber (leftIn m ws xs .held)
+  pub refused : (r : ℕ) (o : Owned) → Kept back (ownedAtEnd p m ws xs) r o → numberIn r ≡ backNumber (leftIn p m ws xs .held)

@@ -5,6 +5,7 @@ use mathlib.Core.List.{List, [], _∷_, map}
 use mathlib.Core.Option.{some}
 use Rattle.bus.specs.State.{reset}
 use Rattle.bus.specs.Good.{Within}
+use Rattle.bus.specs.declared.state.Stretch.{Stretch}
 use Rattle.history.specs.Trace.{Call, run, back, Left, leaves, upTo, ruled, backNumber}
 use Rattle.history.specs.Ring.{slots}
 use Rattle.calls.specs.Inputs.{Input, step, box, machine}
@@ -80,16 +81,16 @@ left ws xs = leftBy (slots ws) (record { inputs = []; held = 0 }) xs
 
 -- ---- the demand
 -- "Start from reset, with memory and an empty journal .. After any mix of accepted inputs and step-backs"
-abbrev pub ended : List ℕ → List ℕ → List Deed → W
-ended m ws xs = last started m ws xs
+abbrev pub ended : Stretch → List ℕ → List ℕ → List Deed → W
+ended p m ws xs = last (started p) m ws xs
 
-pub record Demand3Pens (m ws : List ℕ) (xs : List Deed) : Type 0 where
+pub record Demand3Pens (p : Stretch) (m ws : List ℕ) (xs : List Deed) : Type 0 where
   -- "registers, status registers, halted mark, devices and memory are what demand 2's rules give for the inputs not taken back, run in order
   -- from the start"
-  pub state : ruled machine (box reset m) (left ws xs .inputs) ≡ some (ended m ws xs .box)
-  pub held : ended m ws xs .journal .held ≡ left ws xs .held
+  pub state : ruled machine (box (reset p) m) (left ws xs .inputs) ≡ some (ended p m ws xs .box)
+  pub held : ended p m ws xs .journal .held ≡ left ws xs .held
   -- "A step-back is refused exactly when no record is held"
-  pub refused : answerOf back (ended m ws xs) .number ≡ backNumber (left ws xs .held)
+  pub refused : answerOf back (ended p m ws xs) .number ≡ backNumber (left ws xs .held)
 
 -- ---- a list of pens
 -- a report, read back from the answer
@@ -132,10 +133,10 @@ answersOf today last setup (l ∷ ls) w =
     record { line = l; report = reportFrom a; ram = a .world .box .ram; words = a .world .journal .words } ∷ answersOf today last setup ls (a .world)
 
 -- demand 3 of a whole list from the start: of what is there after it, as `list` of the program promises it
-pub record Demand3List (m ws lines today last setup : List ℕ) : Type 0 where
-  pub demand : Demand3Pens m ws (deedsOf today last setup (answersOf today last setup (linesIn lines) (worldOf started m ws)))
-  pub after : ended m ws (deedsOf today last setup (answersOf today last setup (linesIn lines) (worldOf started m ws)))
-      ≡ afterPens (linesIn lines) today last setup (worldOf started m ws)
+pub record Demand3List (p : Stretch) (m ws lines today last setup : List ℕ) : Type 0 where
+  pub demand : Demand3Pens p m ws (deedsOf today last setup (answersOf today last setup (linesIn lines) (worldOf (started p) m ws)))
+  pub after : ended p m ws (deedsOf today last setup (answersOf today last setup (linesIn lines) (worldOf (started p) m ws)))
+      ≡ afterPens (linesIn lines) today last setup (worldOf (started p) m ws)
 
 -- ---- a pen's calls
 -- each call is accepted, handed what the one before it left

@@ -16,14 +16,14 @@ use Rattle.cpu.specs.Step.{effect, stepOf}
 use Rattle.cpu.specs.Code.{Told, toldOf, toldAs}
 use Rattle.cpu.specs.declared.step.Done.{Done}
 use Rattle.cpu.proofs.Touched.{step-changes}
-use Rattle.history.specs.Trace.{Box, Effect, undoOf, after}
-use Rattle.history.specs.Ring.{Ring, ringOf, pushed, slots, ring}
+use Rattle.history.specs.Trace.{Box, Effect, undoOf}
+use Rattle.history.specs.Ring.{Ring, ringOf, pushed, slots}
 use Rattle.history.specs.Code.{three, amended}
 use Rattle.history.specs.declared.Place.{Place}
 use Rattle.history.proofs.Amending.{amend-pushed}
-use Rattle.records.specs.Record.{recordWith, recordOf, decoded}
-use Rattle.calls.specs.Inputs.{box, machine}
-use Rattle.calls.specs.Calls.{W}
+use Rattle.records.specs.Record.{recordWith, recordOf}
+use Rattle.calls.specs.Inputs.{box}
+use Rattle.calls.specs.Calls.{W, went}
 use Rattle.calls.proofs.Giving.{recorded}
 use Rattle.recording.specs.Code.{standing, noted as notedIn, Turn, turnOf, turnAs}
 
@@ -95,7 +95,7 @@ module _ (g k : List ℕ) (b : Board) (m ws : List ℕ) (p : Place) where
   goes-on : (q : Done) (g′ k′ m′ : List ℕ) (j′ : Ring)
       → toldAs g′ k′ q m′ ≡ toldOf m x
       → j′ ≡ pushed (slots ws) (recordWith c (q .count) (q .first) (q .old)) j
-      → at (box (cpu g′ k′ (q .board)) m′) j′ ≡ after machine (ring recordOf decoded) w x
+      → at (box (cpu g′ k′ (q .board)) m′) j′ ≡ went w x
   goes-on q g′ k′ m′ j′ e ej =
       let s : effect (cpu g′ k′ (q .board)) m′ (q .count) (q .first) (q .bus) ≡ x = ap (λ (y : Told). y .step) e in
       let o : q .old ≡ oldBytes m (x .count) (x .first) = ap (λ (y : Told). y .old) e in
@@ -120,4 +120,4 @@ module _ (g k : List ℕ) (b : Board) (m ws : List ℕ) (p : Place) where
       let j′ = noted q g′ k′ m′ r ws₁ ws′ (p′ .next) (p′ .held) e er ep ea in
       ap (λ (y : W). tells y (effect (cpu g′ k′ (q .board)) m′ (q .count) (q .first) (q .bus)))
       (goes-on q g′ k′ m′ (ringOf ws′ (p′ .next) (p′ .held)) e j′)
-      ∙ ap (tells (after machine (ring recordOf decoded) w x)) s
+      ∙ ap (tells (went w x)) s

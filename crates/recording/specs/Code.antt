@@ -6,13 +6,11 @@ use lib.Dec.{eqb}
 use Rattle.bus.specs.State.{cpu}
 use Rattle.bus.specs.declared.state.Cpu.{Cpu}
 use Rattle.cpu.specs.Step.{stepOf}
-use Rattle.history.specs.Trace.{after}
-use Rattle.history.specs.Ring.{ringOf, ring}
+use Rattle.history.specs.Ring.{ringOf}
 use Rattle.history.specs.Code.{amended}
 use Rattle.history.specs.declared.Place.{Place}
-use Rattle.records.specs.Record.{recordOf, decoded}
-use Rattle.calls.specs.Inputs.{box, machine}
-use Rattle.calls.specs.Calls.{W}
+use Rattle.calls.specs.Inputs.{box}
+use Rattle.calls.specs.Calls.{W, went}
 use Rattle.recording.specs.declared.Recorded.{Recorded}
 
 -- state, next slot and records held, RAM and journal words
@@ -33,7 +31,7 @@ pub record Turn : Type 0 where
 abbrev pub turnOf : W → Turn
 turnOf w =
     let x = stepOf (w .box .cpu) (w .box .ram) in
-    record { world = after machine (ring recordOf decoded) w x; count = x .count; first = x .first; bus = x .bus }
+    record { world = went w x; count = x .count; first = x .first; bus = x .bus }
 
 abbrev pub turnAs : Recorded → List ℕ → List ℕ → List ℕ → List ℕ → Turn
 turnAs r g k ram ws =

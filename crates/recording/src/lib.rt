@@ -27,7 +27,7 @@ fn note(journal: &mut [u16], slot: usize, count: u8, first: u16, old: u16)
 }
 
 // The record of the state before the step is pushed first, and what the step wrote goes in after it: so the record needs no copy of registers and CSRs.
-// The board is handed on part by part, as the run takes it: being 8 bytes, it would be packed into one number and taken apart again at each step.
+// The board is handed on part by part, as the run takes it: docs/DECISIONS.md says what it costs whole.
 pub fn recorded_step(
     table: &[u8; 256],
     regs: &mut [u16; 16],
@@ -40,17 +40,20 @@ pub fn recorded_step(
     ensures { λ r. ⌜ (TellsAll (now (table .entry)) → turnAs r (now (regs .exit)) (now (csrs .exit)) (now (ram .exit)) (now (journal .exit))
         ≡ turnOf (standing (cpu (now (regs .entry)) (now (csrs .entry)) board) place (now (ram .entry)) (now (journal .entry)))) ⌝ }
 {
-    let words = records::encode(*regs, *csrs, board, 0, 0, 0);
+    let v = board.devices;
+    let words = records::encode(*regs, *csrs, v, board.halted, 0, 0, 0);
     let slot = place.next;
     let after = history::push(journal, place, words);
     let q = step::step(table, regs, csrs, ram, board);
     note(journal, slot, q.count, q.first, q.old);
     let b = q.board;
     let devices = b.devices;
+    let stretch = b.stretch;
     Recorded {
         board: Board {
             devices,
             halted: b.halted,
+            stretch,
         },
         place: after,
         count: q.count,

@@ -8,6 +8,7 @@ use Rattle.word.specs.Word.{joinAt, lowAt, highAt}
 use Rattle.word.specs.Bits.{bitAt}
 use Rattle.bus.specs.State.{word, cpu, board, devices}
 use Rattle.bus.specs.declared.state.Cpu.{Cpu}
+use Rattle.bus.specs.declared.state.Stretch.{Stretch}
 use Rattle.history.specs.Trace.{Undo}
 
 -- n words of l, from the i-th on
@@ -32,14 +33,14 @@ recordWith c n a old =
 abbrev pub recordOf : Undo Cpu → List ℕ
 recordOf u = recordWith (u .cpu) (u .count) (u .first) (joinAt 8 (u .low) (u .high))
 
--- what 32 words say
-unfoldable pub undoFrom : List ℕ → Undo Cpu
-undoFrom w =
+-- what 32 words say of a machine with the protected addresses p: no record holds these
+unfoldable pub undoFrom : Stretch → List ℕ → Undo Cpu
+undoFrom p w =
     record {
       cpu =
           cpu (part 16 w 0) (part 6 w 16)
           (board (devices (word w 22) (lowAt 8 (word w 23)) (highAt 8 (word w 23)) (bitAt (word w 24) 0) (bitAt (word w 24) 1))
-          (bitAt (word w 24) 2));
+          (bitAt (word w 24) 2) p);
       count = word w 25;
       first = word w 26;
       low = lowAt 8 (word w 27);
@@ -52,5 +53,5 @@ sound w =
     leb (word w 16) 511 && (leb (word w 24) 7 && (leb (word w 25) 2
     && (eqb (word w 28) 0 && (eqb (word w 29) 0 && (eqb (word w 30) 0 && eqb (word w 31) 0)))))
 
-unfoldable pub decoded : List ℕ → Option (Undo Cpu)
-decoded w = cond (sound w) (some (undoFrom w)) none
+unfoldable pub decoded : Stretch → List ℕ → Option (Undo Cpu)
+decoded p w = cond (sound w) (some (undoFrom p w)) none

@@ -2,11 +2,13 @@
 use bus::state::Board;
 use bus::state::Cpu;
 use bus::state::Devices;
+use bus::state::Stretch;
 use word::bits;
 use word::choice;
 use word::halves;
 ghost use mathlib.Core.Path.{_≡_};
-ghost use Rattle.bus.specs.State.{cpu};
+ghost use Rattle.bus.specs.State.{cpu, board};
+ghost use Rattle.bus.specs.declared.state.Stretch.{Stretch};
 ghost use Rattle.records.specs.Record.{marks as marksOf, part, wordsOf, recordWith, undoFrom, sound};
 ghost use Rattle.records.specs.Code.{undoAs};
 
@@ -73,13 +75,20 @@ fn packed(
     ]
 }
 
-// The state before an input, the bytes that it wrote, their first address, the old bytes.
-pub fn encode(g: [u16; 16], k: [u16; 6], b: Board, count: u8, first: u16, old: u16) -> [u16; 32]
-    ensures { λ r. ⌜ r ≡ recordWith (cpu g k b) count first old ⌝ }
+// The state before an input, but for the protected addresses; the bytes that the input wrote, their first address, the old bytes.
+pub fn encode(
+    g: [u16; 16],
+    k: [u16; 6],
+    v: Devices,
+    halted: bool,
+    count: u8,
+    first: u16,
+    old: u16,
+) -> [u16; 32]
+    ensures { λ r. ⌜ ((p : Stretch) → r ≡ recordWith (cpu g k (board v halted p)) count first old) ⌝ }
 {
-    let v = b.devices;
     let keyboard = halves::join(v.rxd, v.txd);
-    let bits = marks(v.r, v.t, b.halted);
+    let bits = marks(v.r, v.t, halted);
     packed(g, k, v.clock, keyboard, bits, count as u16, first, old)
 }
 
@@ -112,8 +121,9 @@ fn control(w: [u16; 32]) -> [u16; 6]
     [w[16], w[17], w[18], w[19], w[20], w[21]]
 }
 
-pub fn decode(w: [u16; 32]) -> Before
-    ensures { λ r. ⌜ undoFrom w ≡ undoAs r ⌝ }
+// What the words keep, of a machine with these protected addresses.
+pub fn decode(w: [u16; 32], stretch: Stretch) -> Before
+    ensures { λ r. ⌜ undoFrom stretch w ≡ undoAs r ⌝ }
 {
     let regs = registers(w);
     let csrs = control(w);
@@ -137,6 +147,7 @@ pub fn decode(w: [u16; 32]) -> Before
                     t,
                 },
                 halted,
+                stretch,
             },
         },
         count: w[25],

@@ -16,9 +16,8 @@ use watching::Told;
 ghost use mathlib.Core.Path.{_≡_};
 ghost use Rattle.bus.specs.State.{cpu};
 ghost use Rattle.history.specs.Trace.{Call, give, ran};
-ghost use Rattle.history.specs.Ring.{ring};
-ghost use Rattle.records.specs.Record.{recordOf, decoded};
 ghost use Rattle.calls.specs.Inputs.{Input, machine};
+ghost use Rattle.calls.specs.Calls.{journalOf};
 ghost use Rattle.calls.specs.Code.{Acts};
 ghost use Rattle.recording.specs.Code.{standing};
 ghost use Rattle.watching.specs.Watched.{runCause, asRan};
@@ -59,7 +58,7 @@ fn advance(
     journal: &mut [u16],
     steps: u16,
 ) -> Ended
-    ensures { λ r. ⌜ ran machine (ring recordOf decoded) steps (standing (cpu (now (regs .entry)) (now (csrs .entry)) board) place (now (ram .entry)) (now (journal .entry)))
+    ensures { λ r. ⌜ ran machine (journalOf (board .stretch)) steps (standing (cpu (now (regs .entry)) (now (csrs .entry)) board) place (now (ram .entry)) (now (journal .entry)))
         ≡ asRan (endedAs r (now (regs .exit)) (now (csrs .exit)) (now (ram .exit)) (now (journal .exit))) ⌝ }
 {
     let table = opcode::table();

@@ -51,14 +51,14 @@ fn run(table: &[u8; 256], input: &[u8], buffer: &mut [u8]) {
     let mut at = 0;
     while at < input.len() {
         let h = one_state(table, input, at, buffer);
-        report::decimal((at / 52) as u64);
+        report::decimal((at / 56) as u64);
         report::space();
         report::hex(h, 8);
         report::end();
-        if input.len() - at < 52 {
+        if input.len() - at < 56 {
             return;
         }
-        at = at + 52;
+        at = at + 56;
     }
 }
 

@@ -1,5 +1,6 @@
 // rexecute: steps back until pc is at a break, or the step taken back had stored to a watch.
 use crate::Deed;
+use crate::dropped;
 use crate::newest;
 use crate::unstopped;
 use entries::Entry;
@@ -43,8 +44,8 @@ fn at_break(s: Stops, before: &[u16; 32]) -> Stop {
 // One record taken back. Where both are met the watch is named, as in a run forwards.
 fn taken_back(s: Stops, state: &mut [u16; 32], ram: &mut [u8], journal: &mut [u16]) -> Turn {
     let after = *state;
-    let x = newest::stored(&after, journal);
-    let e = list::first(s, x);
+    let x = newest::last(&after, journal);
+    let e = list::first(s, dropped::kept(x, &after, ram.len()));
     let old = status::byte_at(&after, ram, e.address);
     let result = mb50::cross(Call::Back, state, ram, journal);
     if (e.kind == list::WATCH) & !is_poke(x, state, &after) {

@@ -1,5 +1,6 @@
 // execute by the breaks and watches, and rexecute: the calls, made one after the other.
 mod backward;
+pub mod dropped;
 mod forward;
 mod newest;
 

@@ -1,4 +1,4 @@
-// The newest record: which bytes its input stored.
+// The newest records: which bytes their inputs stored.
 use entries::Met;
 use stops::list;
 
@@ -12,21 +12,25 @@ fn word_of(journal: &[u16], record: usize, n: usize) -> u16 {
     0
 }
 
-// Where the record before the next slot stands; the ring's last is before its first.
-fn place(next: u16, words: usize) -> usize {
-    let n = next as usize;
-    if 0 < n {
-        return 32 * (n - 1);
+// The slot before another, in a journal of so many words; the ring's last is before its first.
+pub fn before(slot: u16, words: usize) -> u16 {
+    if 0 < slot {
+        return slot - 1;
     }
     if 32 <= words {
-        return words - 32;
+        return ((words / 32 - 1) % 65536) as u16;
     }
     0
 }
 
-// The stores that a record tells of: their number in its word 25, 2 at most in a record that a step back takes, and the first address in its word 26.
-pub fn stored(state: &[u16; 32], journal: &[u16]) -> Met {
-    let at = place(state[25], journal.len());
+// The stores that the record in a slot tells of: their number in its word 25, 2 at most in a record that a step back takes, and the first address in its word 26.
+pub fn stored(slot: u16, journal: &[u16]) -> Met {
+    let at = 32 * slot as usize;
     let count = word_of(journal, at, 25) % 3;
     list::met(list::WATCH, count as u8, word_of(journal, at, 26))
+}
+
+// The stores of the newest record.
+pub fn last(state: &[u16; 32], journal: &[u16]) -> Met {
+    stored(before(state[25], journal.len()), journal)
 }

@@ -102,6 +102,23 @@ pub fn told(order: Order, o: Outcome, state: &[u16; 32], ram: &[u8], entry: &[u8
     is_shown(order) & !outcomes::is_refused(o)
 }
 
+fn one_at_most(steps: u64) -> u64 {
+    if steps == 0 {
+        return 0;
+    }
+    1
+}
+
+// Of how many steps, the last ones, it is told which stores were dropped: of all that step did, and of the last that execute did.
+pub fn steps_told(order: Order, o: Outcome) -> u64 {
+    match order {
+        Order::Steps(n) => o.steps,
+        Order::Run(n) => one_at_most(o.steps),
+        Order::RunOn => one_at_most(o.steps),
+        _ => 0,
+    }
+}
+
 // A line after each run of many.
 pub fn progress(order: Order, steps: u64, state: &[u16; 32], ram: &[u8]) {
     match order {

@@ -1,28 +1,26 @@
 -- From the points of a list, the checks and the run to what the call answers.
 use Prim.Native.Nat.{ℕ, zero, suc, _≤_, _<_}
 use mathlib.Core.Path.{_≡_, refl, sym, _∙_, ap}
-use mathlib.Core.Bool.{Bool, true, false, cond, not, _&&_}
+use mathlib.Core.Bool.{Bool, true, false, cond, not}
 use mathlib.Core.List.{List, map}
 use native.Mathlib.Omega.{arith}
 use borrow.Author.Tests.{leb-true, leb-false, le-leb, lt-leb}
 use lib.Dec.{leb}
-use lib.ListN.{length, take, drop}
+use lib.ListN.{length, take}
 use Rattle.bus.specs.declared.state.Cpu.{Cpu}
-use Rattle.history.specs.Trace.{Effect, Next, refuses, gives, after}
-use Rattle.history.specs.Ring.{ring}
-use Rattle.records.specs.Record.{recordOf, decoded}
-use Rattle.calls.specs.Inputs.{step, nextOf, machine}
-use Rattle.calls.specs.Calls.{W, checkOf, worldOf}
+use Rattle.history.specs.Trace.{Effect, Next, refuses, gives}
+use Rattle.calls.specs.Inputs.{step, nextOf}
+use Rattle.calls.specs.Calls.{W, checkOf, went, worldOf}
 use Rattle.calls.specs.declared.state.Machine.{Machine as MachineT}
-use Rattle.entries.specs.Entries.{meets, anyOf, marked, placeOf, allKnown}
+use Rattle.entries.specs.Entries.{meets, marked, placeOf, allKnown}
 use Rattle.entries.specs.Code.{bare, pointsOf}
 use Rattle.entries.specs.declared.Entry.{Entry}
 use Rattle.entries.specs.declared.Points.{Points}
 use Rattle.entries.proofs.Listed.{bare-some, bare-place, never-marked, gathered, too-long}
-use Rattle.watching.specs.Watched.{Stop, reached, stored, more, watched, placed, turn, goes}
+use Rattle.watching.specs.Watched.{Stop, reached, stored, watched, placed, turn, goes}
 use Rattle.watching.specs.Code.{Names, stopOf}
 use Rattle.watching.specs.declared.Told.{Told}
-use Rattle.watched.specs.Answer.{Watched, told, refused, listCheck, orElse, unlessRefused, watchedOf}
+use Rattle.watched.specs.Answer.{told, refused, listCheck, orElse, unlessRefused, watchedOf}
 use Rattle.watched.specs.Code.{answered, refuse, stoppedAs, answerAs}
 use Rattle.watched.specs.declared.Stopped.{Stopped}
 
@@ -83,7 +81,7 @@ module _ (l : List Entry) where
 
   turn-same : (on on′ : W → Stop) → ((w : W) → on w ≡ on′ w) → (first : Bool) (w : W) (x : Next Cpu) → turn on first b w x ≡ turn on′ first l w x
   turn-same on on′ h first w (refuses n) = refl
-  turn-same on on′ h first w (gives e) = rw (bare-some (reached w) l, watched-same on on′ h e (after machine (ring recordOf decoded) w e))
+  turn-same on on′ h first w (gives e) = rw (bare-some (reached w) l, watched-same on on′ h e (went w e))
 
   goes-same : (n : ℕ) (first : Bool) (w : W) → goes n first b w ≡ goes n first l w
   goes-same zero first w = refl

@@ -1,20 +1,18 @@
 -- A watched run under way, step by step.
 use Prim.Native.Nat.{ℕ, zero, suc, _+_, _-_, _<_, _≤_}
-use mathlib.Core.Path.{_≡_, refl, sym, _∙_, ap}
-use mathlib.Core.Bool.{Bool, true, false, cond, not, _&&_}
+use mathlib.Core.Path.{_≡_, refl, sym, _∙_, ap, subst}
+use mathlib.Core.Bool.{Bool, true, false, cond, not, _&&_, _||_}
 use mathlib.Core.List.{List, [], _∷_}
 use native.Mathlib.Omega.{arith}
-use borrow.Author.Tests.{eq-eqb, ne-eqb, lt-ltb, le-ltb}
-use lib.Dec.{eqb, ltb}
+use borrow.Author.Tests.{eq-eqb, ne-eqb, lt-ltb, le-ltb, eqb-true, eqb-false}
+use lib.Dec.{T, eqb, ltb}
 use lib.ListN.{length}
-use Rattle.bus.specs.State.{cpu}
-use Rattle.bus.specs.declared.state.Cpu.{Cpu}
-use Rattle.cpu.specs.Step.{stepOf}
-use Rattle.history.specs.Trace.{Effect, Next, gives, after}
-use Rattle.history.specs.Ring.{ring}
-use Rattle.records.specs.Record.{recordOf, decoded}
-use Rattle.calls.specs.Inputs.{step, nextOf, machine}
-use Rattle.calls.specs.Calls.{W}
+use Rattle.bus.specs.State.{cpu, board}
+use Rattle.bus.specs.declared.state.Board.{Board}
+use Rattle.bus.specs.declared.state.Stretch.{Stretch}
+use Rattle.cpu.proofs.Touched.{step-spares}
+use Rattle.calls.specs.Inputs.{step, nextOf}
+use Rattle.calls.specs.Calls.{W, stretchOf}
 use Rattle.calls.proofs.Giving.{step-goes, step-stops}
 use Rattle.recording.specs.Code.{standing, Turn, turnOf, turnAs}
 use Rattle.recording.specs.declared.Recorded.{Recorded}
@@ -24,9 +22,9 @@ use Rattle.entries.specs.declared.Met.{Met}
 use Rattle.entries.specs.Code.{bare}
 use Rattle.entries.proofs.Places.{bare-length}
 use Rattle.entries.proofs.Listed.{some-place, never-met}
-use Rattle.watching.specs.Watched.{Stop, stops, nothing, reached, caught, turn, goes}
-use Rattle.watching.specs.Code.{caughtAs, stopOf, Names}
-use Rattle.watching.specs.declared.Ending.the-variants.{Budget, Halted, Watch, Break}
+use Rattle.watching.specs.Watched.{Stop, stops, nothing, landedByte, landed, reached, caught, turn, goes}
+use Rattle.watching.specs.Code.{caughtAs, stopOf, soughtAfter, Names}
+use Rattle.watching.specs.declared.Ending.the-variants.{Budget, Halted, Break}
 
 -- a stop after so many steps and bus bytes
 abbrev later : ℕ → ℕ → Stop → Stop
@@ -51,6 +49,11 @@ sought-empty true f a k e = sym e
 sought-empty false f [] k e = refl
 sought-empty false f (x ∷ a) k e = absurd (omega (arith, e))
 
+empty-met : (f : Entry → Bool) (a k : List ℕ) → length a ≡ 0 → anyOf f (bare a k) ≡ false
+unfolding anyOf bare
+empty-met f [] k e = refl
+empty-met f (x ∷ a) k e = absurd (omega (arith, e))
+
 -- ---- what a search tells: i is the place of the first entry met, or the list's length where the search was skipped
 module _ (skip : Bool) (f : Entry → Bool) (a k : List ℕ) (same-length : length k ≡ length a) (i : ℕ)
     (e : i ≡ cond skip (length a) (placeOf f (bare a k))) where
@@ -74,19 +77,78 @@ module _ (skip : Bool) (f : Entry → Bool) (a k : List ℕ) (same-length : leng
       go true p = let q : i ≡ length a = e ∙ rw p in absurd (omega (arith, q, h))
       go false p = e ∙ rw p
 
--- a step that wrote nothing has met no watch
-unstored : (n a : ℕ) (l : List Entry) → (not (eqb n 0) && anyOf (meets (metAt 2 n a)) l) ≡ anyOf (meets (metAt 2 n a)) l
-unstored zero a l = sym (never-met 2 a l)
-unstored (suc n) a l = rw (ne-eqb (suc n) 0 (λ z. omega (arith, z)))
+-- ---- what is looked for after a step that stored n bytes
+module _ (t : Bool) (p : Stretch) (m n a : ℕ) (x : Met) where
+  pub skips : (t || eqb n 0) ≡ true → x ≡ metAt 2 0 a → x ≡ soughtAfter t p m n a
+  unfolding landed
+  skips h e = go t refl
+    where
+      go : (s : Bool) → t ≡ s → x ≡ soughtAfter t p m n a
+      go true q = rw q e
+      go false q = let z = eqb-true n 0 (rw q at h) in rw (q, z) e
 
--- so for the bytes that a step wrote
-module _ (n first : ℕ) (a k : List ℕ) (same-length : length k ≡ length a) (i : ℕ)
-    (e : i ≡ cond (eqb n 0) (length a) (placeOf (meets (metAt 2 n first)) (bare a k))) where
-  pub stored-met : i < length a → anyOf (meets (metAt 2 n first)) (bare a k) ≡ true
-  stored-met h = sym (unstored n first (bare a k)) ∙ sought-met (eqb n 0) (meets (metAt 2 n first)) a k same-length i e h
+  unskipped : (t || eqb n 0) ≡ false → (t ≡ false) × (n ≡ 0 → ⊥)
+  unskipped h = go t refl
+    where
+      go : (s : Bool) → t ≡ s → (t ≡ false) × (n ≡ 0 → ⊥)
+      go true q = absurd (subst T (rw q at h) tt)
+      go false q = (q, eqb-false n 0 (rw q at h))
 
-  pub stored-none : length a ≤ i → anyOf (meets (metAt 2 n first)) (bare a k) ≡ false
-  stored-none h = sym (unstored n first (bare a k)) ∙ sought-none (eqb n 0) (meets (metAt 2 n first)) a k same-length i e h
+  pub goes-one : (t || eqb n 0) ≡ false → n ≡ 1 → x ≡ landedByte p m a → x ≡ soughtAfter t p m n a
+  unfolding landed
+  goes-one h q e = rw (unskipped h .0, q) e
+
+  pub goes-two : (t || eqb n 0) ≡ false → (n ≡ 1 → ⊥) → x ≡ landed p m 2 a → x ≡ soughtAfter t p m n a
+  unfolding landed
+  goes-two h q e = let u = unskipped h in rw (u .0) (go n (u .1) q)
+    where
+      go : (k : ℕ) → (k ≡ 0 → ⊥) → (k ≡ 1 → ⊥) → x ≡ landed p m k a
+      go zero f g = absurd (f refl)
+      go (suc zero) f g = absurd (g refl)
+      go (suc (suc k)) f g = e
+
+-- so for the bytes that a step stored: they meet no entry where the search was skipped, since the list is empty or nothing was stored
+module _ (p : Stretch) (m n first : ℕ) (a k : List ℕ) (same-length : length k ≡ length a) (i : ℕ) (x : Met) where
+  abbrev skip : Bool
+  skip = eqb (length a) 0 || eqb n 0
+
+  abbrev y : Met
+  y = landed p m n first
+
+  module _ (f : x ≡ soughtAfter skip p m n first) (e : i ≡ cond skip (length a) (placeOf (meets x) (bare a k))) where
+    unmet : (z t : Bool) → eqb (length a) 0 ≡ z → eqb n 0 ≡ t → (z || t) ≡ true → anyOf (meets y) (bare a k) ≡ false
+    unfolding landed
+    unmet true t q r s = empty-met (meets y) a k (eqb-true (length a) 0 q)
+    unmet false true q r s = rw (eqb-true n 0 r) (never-met 2 first (bare a k))
+    unmet false false q r s = absurd (subst T (sym s) tt)
+
+    -- what was looked for is what was stored, where something is met
+    looked : i < length a → (skip ≡ false) × (x ≡ y)
+    looked h = go skip refl
+      where
+        go : (t : Bool) → skip ≡ t → (skip ≡ false) × (x ≡ y)
+        go true q = let z : i ≡ length a = e ∙ rw q in absurd (omega (arith, z, h))
+        go false q = (q, f ∙ rw q)
+
+    pub stored-is : i < length a → x ≡ y
+    stored-is h = looked h .1
+
+    pub stored-met : i < length a → anyOf (meets y) (bare a k) ≡ true
+    stored-met h =
+        let q = looked h in
+        ap (λ (v : Met). anyOf (meets v) (bare a k)) (sym (q .1)) ∙ (rw (q .0) at (sought-met skip (meets x) a k same-length i e h))
+
+    pub stored-place : i < length a → i ≡ placeOf (meets x) (bare a k)
+    stored-place h = sought-place skip (meets x) a k same-length i e h
+
+    pub stored-none : length a ≤ i → anyOf (meets y) (bare a k) ≡ false
+    stored-none h = go skip refl
+      where
+        go : (t : Bool) → skip ≡ t → anyOf (meets y) (bare a k) ≡ false
+        go true q = unmet (eqb (length a) 0) (eqb n 0) refl refl q
+        go false q =
+            let z : x ≡ y = f ∙ rw q in
+            ap (λ (v : Met). anyOf (meets v) (bare a k)) (sym z) ∙ (rw q at (sought-none skip (meets x) a k same-length i e h))
 
 -- the end of a step that stored to a watched address
 caught-is : (s b p : ℕ) (x : Met) (u : W) (t : Bool) → u .box .cpu .board .halted ≡ t
@@ -101,9 +163,6 @@ caught-names s b p x l false e = e
 
 -- ---- one turn
 module _ (budget left bus : ℕ) (l : List Entry) (start : Stop) (v : W) (i : Going budget l start left bus v) where
-  abbrev y : Effect Cpu
-  y = stepOf (v .box .cpu) (v .box .ram)
-
   pub halts : v .box .cpu .board .halted ≡ true → start ≡ stops (budget - left) bus Halted nothing v
   halts h = go left i
     where
@@ -133,24 +192,36 @@ module _ (budget left bus : ℕ) (l : List Entry) (start : Stop) (v : W) (i : Go
 
       module _ (few : left ≤ budget) (t : (not (eqb left budget) && anyOf (meets (reached v)) l) ≡ false) where
         -- the step's stop, or the run's from there
+        abbrev metBy : Turn → Met
+        metBy r = landed (stretchOf (r .world)) (length (r .world .box .ram)) (r .count) (r .first)
+
         abbrev onward : Turn → Stop
         onward r =
             later (budget - (left - 1)) (bus + r .bus)
-            (cond (anyOf (meets (metAt 2 (r .count) (r .first))) l) (caught (metAt 2 (r .count) (r .first)) (r .world) (nextOf step (r .world .box)))
-            (goes (left - 1) false l (r .world)))
+            (cond (anyOf (meets (metBy r)) l) (caught (metBy r) (r .world) (nextOf step (r .world .box))) (goes (left - 1) false l (r .world)))
 
         steps : onward (turnOf v) ≡ start
         steps = same (omega (arith, some-left, few)) (omega arith) ∙ (rw (step-goes (v .box) h, t) at taken)
 
         module _ (r : Recorded) (g k m ws : List ℕ) (e : turnAs r g k m ws ≡ turnOf v) where
+          -- the board as the run keeps it: a step leaves the protected addresses
+          abbrev b : Board
+          b = board (r .board .devices) (r .board .halted) (stretchOf v)
+
           abbrev u : W
-          u = standing (cpu g k (r .board)) (r .place) m ws
+          u = standing (cpu g k b) (r .place) m ws
 
           abbrev x : Met
-          x = metAt 2 (r .count) (r .first)
+          x = landed (stretchOf v) (length m) (r .count) (r .first)
 
-          stepped : onward (turnAs r g k m ws) ≡ start
-          stepped = ap onward e ∙ steps
+          same-stretch : r .board .stretch ≡ stretchOf v
+          same-stretch = ap (λ (t : Turn). stretchOf (t .world)) e ∙ step-spares (v .box .cpu) (v .box .ram) .stretch
+
+          abbrev told : Board → Turn
+          told b′ = record { world = standing (cpu g k b′) (r .place) m ws; count = r .count; first = r .first; bus = r .bus }
+
+          stepped : onward (told b) ≡ start
+          stepped = ap (λ (p : Stretch). onward (told (board (r .board .devices) (r .board .halted) p))) (sym same-stretch) ∙ ap onward e ∙ steps
 
           pub goes-on : anyOf (meets x) l ≡ false → Going budget l start (left - 1) (bus + r .bus) u
           goes-on s =

@@ -5,11 +5,12 @@ use mathlib.Core.Path.{_≡_}
 use mathlib.Core.List.{List}
 use Rattle.calls.specs.Calls.{W}
 use Rattle.bus.specs.State.{cpu}
+use Rattle.bus.specs.declared.state.Stretch.{Stretch}
 use Rattle.recording.specs.Code.{standing}
 use Rattle.entries.specs.Entries.{metAt, meets, placeOf}
 use Rattle.entries.specs.declared.Entry.{Entry}
 use Rattle.entries.specs.declared.Met.{Met}
-use Rattle.watching.specs.Watched.{Stop, stops, placed}
+use Rattle.watching.specs.Watched.{Stop, stops, placed, landed}
 use Rattle.watching.specs.declared.Ending.{Ending}
 use Rattle.watching.specs.declared.Ending.the-variants as Ending
 use Rattle.watching.specs.declared.Told.{Told}
@@ -27,6 +28,10 @@ stopOf t w = stops (t .steps) (t .bus) (t .ending) (t .met) w
 
 abbrev pub endedAs : Ended → List ℕ → List ℕ → List ℕ → List ℕ → Stop
 endedAs r g k ram ws = stopOf (r .told) (standing (cpu g k (r .board)) (r .place) ram ws)
+
+-- what is looked for after a step, unless none can be met
+abbrev pub soughtAfter : Bool → Stretch → ℕ → ℕ → ℕ → Met
+soughtAfter skip p m n a = cond skip (metAt 2 0 a) (landed p m n a)
 
 -- the entry that is named
 abbrev pub Names : Told → List Entry → Type 0

@@ -1,16 +1,19 @@
 -- Q-9: a run that goes by a list of breaks and watches. "It stops before a step that starts with pc at a break address, the first step of a run
 -- excepted, and after any step that stored to a watched address"; "Where causes meet, the order is halted, watch, budget, break".
 use Prim.Native.Nat.{ℕ, zero, suc, _+_}
-use mathlib.Core.Bool.{Bool, true, false, cond, not, _&&_}
+use mathlib.Core.Bool.{Bool, false, cond, not, _&&_}
 use mathlib.Core.List.{List}
+use lib.ListN.{length}
+use Rattle.word.specs.Word.{above}
 use Rattle.names.specs.Names.{PC}
 use Rattle.bus.specs.State.{word}
+use Rattle.bus.specs.Addresses.{dropped}
 use Rattle.bus.specs.declared.state.Cpu.{Cpu}
-use Rattle.history.specs.Trace.{Effect, Next, refuses, gives, Cause, no-run, budget, stopped, Answer, answers, after}
-use Rattle.history.specs.Ring.{Ring, ring}
-use Rattle.records.specs.Record.{recordOf, decoded}
-use Rattle.calls.specs.Inputs.{step, nextOf, machine}
-use Rattle.calls.specs.Calls.{W}
+use Rattle.bus.specs.declared.state.Stretch.{Stretch}
+use Rattle.history.specs.Trace.{Effect, Next, refuses, gives, Cause, no-run, budget, stopped, Answer, answers}
+use Rattle.history.specs.Ring.{Ring}
+use Rattle.calls.specs.Inputs.{step, nextOf}
+use Rattle.calls.specs.Calls.{W, went}
 use Rattle.entries.specs.Entries.{metAt, meets, anyOf}
 use Rattle.entries.specs.declared.Entry.{Entry}
 use Rattle.entries.specs.declared.Met.{Met}
@@ -35,9 +38,19 @@ nothing = metAt 0 0 0
 abbrev pub reached : W → Met
 reached w = metAt 1 1 (word (w .box .cpu .regs) PC)
 
--- a watch's entries, kind 2: at one of the bytes that the step wrote through memory, ignored ones too
+-- a byte stored to the address a, where RAM has m bytes: "a byte dropped under Q-4 is no hit, an ignored one is"
+abbrev pub landedByte : Stretch → ℕ → ℕ → Met
+landedByte p m a = metAt 2 (cond (dropped p m a) 0 1) a
+
+-- of n bytes stored from a on those that are not dropped: they stand side by side, since only the first or the second may be missing
+unfoldable pub landed : Stretch → ℕ → ℕ → ℕ → Met
+landed p m zero a = metAt 2 0 a
+landed p m (suc zero) a = landedByte p m a
+landed p m (suc (suc n)) a = cond (dropped p m a) (landedByte p m (above a)) (metAt 2 (cond (dropped p m (above a)) 1 2) a)
+
+-- a watch's entries, kind 2: at one of the bytes that the step stored, but for dropped ones
 abbrev pub stored : Effect Cpu → Met
-stored e = metAt 2 (e .count) (e .first)
+stored e = landed (e .box .cpu .board .stretch) (length (e .box .ram)) (e .count) (e .first)
 
 -- "the first in the list is named": by a watch and by a break; a stop for another cause names none, which counts as 0
 abbrev pub placed : Ending → ℕ → ℕ
@@ -78,7 +91,7 @@ abbrev pub turn : (W → Stop) → Bool → List Entry → W → Next Cpu → St
 turn on first l w (refuses n) = stops 0 0 Halted nothing w
 turn on first l w (gives e) =
     cond (not first && anyOf (meets (reached w)) l) (stops 0 0 Break (reached w) w)
-    (more e (watched on l e (after machine (ring recordOf decoded) w e)))
+    (more e (watched on l e (went w e)))
 
 -- a run of n steps at most
 abbrev pub goes : ℕ → Bool → List Entry → W → Stop

@@ -1,8 +1,11 @@
 // The one loop over recorded steps: a run that goes by a list of breaks and watches. The plain run goes by an empty list.
+use bus::address;
 use bus::state::Board;
+use bus::state::Stretch;
 use entries::Met;
 use history::Place;
 use names::register::PC;
+use word::sums;
 ghost use mathlib.Core.Path.{_≡_};
 ghost use mathlib.Core.Bool.{true, cond};
 ghost use lib.ListN.{length};
@@ -11,8 +14,8 @@ ghost use Rattle.bus.specs.State.{cpu};
 ghost use Rattle.recording.specs.Code.{standing};
 ghost use Rattle.entries.specs.Entries.{metAt, meets, placeOf};
 ghost use Rattle.entries.specs.Code.{bare};
-ghost use Rattle.watching.specs.Watched.{goes};
-ghost use Rattle.watching.specs.Code.{tellsOf, caughtAs, endedAs, Names};
+ghost use Rattle.watching.specs.Watched.{goes, landedByte, landed as landedOf};
+ghost use Rattle.watching.specs.Code.{tellsOf, caughtAs, endedAs, soughtAfter, Names};
 
 // Why a watched run stopped; a refused one did not run.
 pub enum Ending {
@@ -43,6 +46,43 @@ fn met(kind: u16, count: u8, first: u16) -> Met
     ensures { λ r. ⌜ r ≡ metAt kind count first ⌝ }
 {
     Met { kind, count, first }
+}
+
+// What one stored byte meets; a dropped one meets nothing.
+fn landed_byte(p: Stretch, ram: usize, a: u16) -> Met
+    ensures { λ r. ⌜ r ≡ landedByte p ram a ⌝ }
+{
+    if address::drops(p, ram, a) {
+        return met(2, 0, a);
+    }
+    met(2, 1, a)
+}
+
+// What the stored bytes of a word meet.
+fn landed_word(p: Stretch, ram: usize, a: u16) -> Met
+    ensures { λ r. ⌜ r ≡ landedOf p ram 2 a ⌝ }
+{
+    let second = sums::plus(a, 1);
+    if address::drops(p, ram, a) {
+        return landed_byte(p, ram, second);
+    }
+    if address::drops(p, ram, second) {
+        return met(2, 1, a);
+    }
+    met(2, 2, a)
+}
+
+// What a step's stored bytes meet; not asked where `skip` says that nothing can be met, as in each step of a run by an empty list.
+pub fn landed(skip: bool, p: Stretch, ram: usize, count: u8, first: u16) -> Met
+    ensures { λ r. ⌜ r ≡ soughtAfter skip p ram count first ⌝ }
+{
+    if skip | (count == 0) {
+        return met(2, 0, first);
+    }
+    if count == 1 {
+        return landed_byte(p, ram, first);
+    }
+    landed_word(p, ram, first)
 }
 
 fn tells(steps: u16, bus: u32, ending: Ending, met: Met, place: usize) -> Told
@@ -83,7 +123,7 @@ fn sought(skip: bool, addresses: &[u16], kinds: &[u16], x: Met) -> usize
 }
 
 // Steps until the machine is halted, the budget used up, a watch or a break met. Registers and CSRs are lent and not copied, since a lone step's caller reads
-// at once what the step wrote; the board's parts stay apart from step to step (`recorded_step` says why). There is no other loop over steps: with a second
+// at once what the step wrote; the protected addresses are those at the start, and the board's other parts stay apart from step to step (`recorded_step` says why). There is no other loop over steps: with a second
 // place that steps, the compiler would not make one loop of the run and the recorded step.
 pub fn advance(
     table: &[u8; 256],
@@ -106,6 +146,7 @@ pub fn advance(
 {
     let mut devices = board.devices;
     let mut halted = board.halted;
+    let stretch = board.stretch;
     let mut at = place;
     let mut left = budget;
     let mut bus: u32 = 0;
@@ -121,7 +162,11 @@ pub fn advance(
         if i < addresses.len() {
             break tells(budget - left, bus, Ending::Break, reached, i);
         }
-        let before = Board { devices, halted };
+        let before = Board {
+            devices,
+            halted,
+            stretch,
+        };
         let r = recording::recorded_step(table, regs, csrs, before, at, ram, journal);
         let b = r.board;
         devices = b.devices;
@@ -129,14 +174,19 @@ pub fn advance(
         at = r.place;
         bus = bus + r.bus as u32;
         left = left - 1;
-        let stored = met(2, r.count, r.first);
-        let k = sought(r.count == 0, addresses, kinds, stored);
+        let skip = (addresses.len() == 0) | (r.count == 0);
+        let stored = landed(skip, stretch, ram.len(), r.count, r.first);
+        let k = sought(skip, addresses, kinds, stored);
         if k < addresses.len() {
             break caught(budget - left, bus, halted, stored, k);
         }
     };
     Ended {
-        board: Board { devices, halted },
+        board: Board {
+            devices,
+            halted,
+            stretch,
+        },
         place: at,
         told,
     }

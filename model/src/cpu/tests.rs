@@ -14,7 +14,7 @@ impl Bench {
     /// With an instruction at address 0.
     fn with(line: &str) -> Bench {
         let mut bench = Bench {
-            cpu: Cpu::new(),
+            cpu: Cpu::new(Stretch::NONE),
             ram: vec![0; 256],
         };
         bench.put_word(0, word_of(line));
@@ -393,23 +393,23 @@ fn loads_from_the_devices() {
 
 #[test]
 fn instructions_at_the_edges() {
-    let mut cpu = Cpu::new();
+    let mut cpu = Cpu::new(Stretch::NONE);
     cpu.registers[PC] = 0xfff0;
     cpu.registers[2] = 9;
     cpu.devices.clock = word_of("mv r1, r2");
     assert_eq!(cpu.step(&mut []).bus, 2);
     assert_eq!((cpu.registers[1], cpu.registers[PC]), (9, 0xfff2));
-    let mut cpu = Cpu::new();
+    let mut cpu = Cpu::new(Stretch::NONE);
     cpu.registers[PC] = RXD;
     cpu.devices.rxd = 0x08;
     cpu.step(&mut []);
     assert_eq!((cpu.registers[2], cpu.registers[PC]), (0, 0xffe3));
     assert_eq!(cpu.registers[0], 1);
-    let mut cpu = Cpu::new();
+    let mut cpu = Cpu::new(Stretch::NONE);
     cpu.registers[PC] = 0xffff;
     cpu.step(&mut [0x08]);
     assert_eq!((cpu.registers[PC], cpu.csrs[0]), (1, 0x0101));
-    let mut cpu = Cpu::new();
+    let mut cpu = Cpu::new(Stretch::NONE);
     cpu.registers[PC] = 2;
     cpu.step(&mut [0, 0, 0x08]);
     assert_eq!((cpu.registers[0], cpu.registers[PC]), (1, 4));

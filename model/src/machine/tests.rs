@@ -4,6 +4,8 @@ use super::*;
 use crate::bus::{RXD, TXD};
 use crate::cpu::{IA, PC};
 
+mod stretches;
+
 /// Every call.
 const CALLS: [Call; 9] = [
     Call::Step,
@@ -29,7 +31,7 @@ impl Desk {
     /// A machine at the start.
     fn new(ram: usize, journal: usize) -> Desk {
         Desk {
-            machine: Machine::new(),
+            machine: Machine::new(Stretch::NONE),
             ram: vec![0; ram],
             journal: vec![0; journal],
         }
@@ -296,7 +298,7 @@ fn pokes() {
 #[test]
 fn resets() {
     let desk = after(Call::Reset);
-    assert_eq!(desk.machine.cpu, Cpu::new());
+    assert_eq!(desk.machine.cpu, Cpu::new(Stretch::NONE));
     assert_eq!(desk.ram[5], 0x55);
 }
 

@@ -1,6 +1,7 @@
 //! Each sentence of the request, tried.
 
 use super::*;
+use crate::bus::Stretch;
 use crate::cpu::{F, PC};
 use crate::journal::RECORD;
 
@@ -29,7 +30,7 @@ impl Desk {
     /// the name's address in r1, and stops at 4.
     fn with(words: &[u16]) -> Desk {
         let mut desk = Desk {
-            machine: Machine::new(),
+            machine: Machine::new(Stretch::NONE),
             ram: words.iter().flat_map(|word| word.to_le_bytes()).collect(),
             journal: vec![0; 8 * RECORD],
             setup: Setup::of_words(&[AT, 4, 100, 1, AT, 15, 0]),

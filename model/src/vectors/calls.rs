@@ -2,7 +2,7 @@
 
 use super::desk::{Command, Desk, COMMAND};
 use super::script::Script;
-use super::{edges, faults, walks, watches};
+use super::{edges, faults, stretches, walks, watches};
 
 /// The input: all commands, and after them those of the watched runs.
 pub fn all_input() -> Vec<u8> {
@@ -37,16 +37,19 @@ fn script() -> Script {
     walks::write(&mut script);
     faults::write(&mut script);
     edges::write(&mut script);
+    stretches::write(&mut script);
     script
 }
 
 #[cfg(test)]
 mod tests {
     use super::*;
-    use crate::cpu::{Cpu, PC};
+    use crate::bus::Written;
+    use crate::cpu::{Cpu, Effect, PC};
     use crate::journal::{self, RECORD};
     use crate::machine::{Answer, Call, Cause};
     use crate::opcode;
+    use crate::vectors::desk::SET_STRETCH;
 
     /// What happens in all scenarios.
     struct Coverage {
@@ -56,6 +59,8 @@ mod tests {
         opcodes: [usize; 256],
         /// How many interrupts are taken.
         interrupts: usize,
+        /// How many stores drop no byte, the first, the second, both.
+        drops: [usize; 4],
         /// The budget, the steps and the cause of each run.
         runs: Vec<(u16, u16, Cause)>,
         /// The accepted step-backs: the length of RAM, the bytes counted, the
@@ -74,6 +79,7 @@ mod tests {
                 numbers: [0; 10],
                 opcodes: [0; 256],
                 interrupts: 0,
+                drops: [0; 4],
                 runs: Vec::new(),
                 step_backs: Vec::new(),
                 revived: 0,
@@ -110,7 +116,9 @@ mod tests {
         fn note_steps(&mut self, mut cpu: Cpu, ram: &mut [u8], answer: &Answer) {
             for _ in 0..answer.steps {
                 let opcode = cpu.devices.read_byte(ram, cpu.registers[PC]);
-                if cpu.step(ram).bus == 0 {
+                let Effect { bus, written } = cpu.step(ram);
+                self.drops[usize::from(drops(&cpu, ram, &written))] += 1;
+                if bus == 0 {
                     self.interrupts += 1;
                 } else {
                     self.opcodes[usize::from(opcode)] += 1;
@@ -124,7 +132,8 @@ mod tests {
                 Some(Call::Run(budget)) => self.runs.push((budget, answer.steps, answer.cause)),
                 Some(Call::StepBack) => {
                     let start = RECORD * desk.machine.next;
-                    let (_, written) = journal::decode(&desk.journal[start..start + RECORD]);
+                    let record = &desk.journal[start..start + RECORD];
+                    let (_, written) = journal::decode(record, desk.machine.cpu.stretch);
                     let edge = (desk.ram_length, written.count, written.first, next);
                     self.step_backs.push(edge);
                 }
@@ -139,14 +148,23 @@ mod tests {
         }
     }
 
+    /// 1 if the first byte is dropped, and 2 if the second is.
+    fn drops(cpu: &Cpu, ram: &[u8], written: &Written) -> u16 {
+        let bytes = (0..written.count).map(|offset| {
+            let address = written.first.wrapping_add(offset);
+            u16::from(cpu.stretch.drops(ram, address)) << offset
+        });
+        bytes.sum()
+    }
+
     #[test]
     fn sizes() {
         let commands = script().commands;
         assert_eq!(input().len(), COMMAND * commands.len());
-        assert!(commands.len() <= 45_000, "{}", commands.len());
+        assert!(commands.len() <= 48_000, "{}", commands.len());
         let lines = shown(&input()).lines().count();
-        assert!((150..=250).contains(&lines), "{lines}");
-        for kind in 0..20 {
+        assert!((150..=300).contains(&lines), "{lines}");
+        for kind in (0..20).chain([SET_STRETCH]) {
             assert!(commands.iter().any(|command| command.kind == kind));
         }
     }
@@ -160,6 +178,11 @@ mod tests {
         check_step_backs(&coverage);
         check_lengths(&coverage);
         assert!(coverage.revived > 500);
+        assert!(
+            coverage.drops.iter().all(|count| *count >= 50),
+            "{:?}",
+            coverage.drops
+        );
     }
 
     /// Every legal opcode is run, and illegal ones of both reasons.

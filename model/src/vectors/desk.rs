@@ -3,6 +3,7 @@
 
 use super::points::Points;
 use super::Digest;
+use crate::bus::Stretch;
 use crate::machine::{Answer, Call, Cause, Machine};
 use crate::watched::{self, Stop, Told};
 
@@ -35,8 +36,10 @@ pub const SHOW: u8 = 17;
 pub const SET_REGISTER: u8 = 18;
 /// The halted mark is set.
 pub const SET_HALTED: u8 = 19;
-/// A watched run is made; the kinds above it arrange its list.
+/// A watched run is made; the three kinds above it arrange its list.
 pub const RUN_WATCHED: u8 = 20;
+/// The protected addresses are set.
+pub const SET_STRETCH: u8 = 24;
 
 /// A command: its kind and what goes with it.
 #[derive(Clone, Copy, Debug, PartialEq, Eq)]
@@ -127,7 +130,7 @@ impl Desk {
     /// A desk before the first command, with nothing lent.
     pub fn new() -> Desk {
         Desk {
-            machine: Machine::new(),
+            machine: Machine::new(Stretch::NONE),
             ram: vec![0; RAM],
             journal: vec![0; JOURNAL],
             ram_length: 0,
@@ -215,6 +218,8 @@ impl Desk {
         self.digest.absorb(cpu.marks());
         self.digest.absorb((self.machine.next % 65_536) as u16);
         self.digest.absorb((self.machine.held % 65_536) as u16);
+        self.digest.absorb(cpu.stretch.first);
+        self.digest.absorb(cpu.stretch.last);
     }
 
     /// Obeys a command that makes no call; kinds that are none of these do
@@ -235,14 +240,16 @@ impl Desk {
             SET_REGISTER => self.machine.cpu.registers[usize::from(y % 16)] = a,
             SET_HALTED => self.machine.cpu.halted = y % 2 == 1,
             RUN_WATCHED => self.run_watched(a),
+            SET_STRETCH => self.machine.cpu.stretch = Stretch { first: a, last: b },
             _ => self.points.arrange(command),
         }
     }
 
-    /// Begins a scenario: the machine as at the start, the journal buffer all
-    /// 0, the RAM buffer filled, no entries. Lengths of RAM and journal stay.
+    /// Begins a scenario: the machine as at the start with nothing protected,
+    /// the journal buffer all 0, the RAM buffer filled, no entries. Lengths of
+    /// RAM and journal stay.
     fn start(&mut self, fill: u8) {
-        self.machine = Machine::new();
+        self.machine = Machine::new(Stretch::NONE);
         self.points = Points::new();
         self.journal.fill(0);
         for (address, byte) in self.ram.iter_mut().enumerate() {
@@ -325,7 +332,8 @@ mod tests {
             command(SET_RAM_BYTE, 0x99, 0xffff, 0),
             command(SET_REGISTER, 0x12, 0x4321, 0),
             command(SET_HALTED, 3, 0, 0),
-            command(24, 1, 1, 1),
+            command(SET_STRETCH, 0, 0x1234, 0x5678),
+            command(25, 1, 1, 1),
             command(255, 1, 1, 1),
         ]);
         assert_eq!(desk.journal[32_999], 0xbeef);
@@ -336,6 +344,8 @@ mod tests {
         assert_eq!(desk.ram[0xffff], 0x99);
         assert_eq!(desk.machine.cpu.registers[2], 0x4321);
         assert!(desk.machine.cpu.halted);
+        let stretch = desk.machine.cpu.stretch;
+        assert_eq!((stretch.first, stretch.last), (0x1234, 0x5678));
         assert_eq!(desk.output(), "");
         assert_eq!(desk.points, Points::new());
     }
@@ -348,6 +358,7 @@ mod tests {
             command(1, 0, 0, 0),
             command(SET_ENTRY, 5, 1, 2),
             command(SET_ENTRIES, 0, 7, 0),
+            command(SET_STRETCH, 0, 0, 9),
             command(SHOW, 0, 0, 0),
             command(START, 1, 0, 0),
             command(SHOW, 0, 0, 0),
@@ -358,7 +369,7 @@ mod tests {
         let line = format!("1 {}\n", digest.digits());
         assert_eq!(desk.lines.len(), 2);
         assert_eq!(desk.lines[1], line);
-        assert_eq!(desk.machine, Machine::new());
+        assert_eq!(desk.machine, Machine::new(Stretch::NONE));
         assert_eq!(desk.points, Points::new());
     }
 
@@ -381,7 +392,7 @@ mod tests {
         (0..15).for_each(|_| digest.absorb(0));
         digest.absorb(2);
         (0..8).for_each(|_| digest.absorb(0));
-        [2, 0, 0].iter().for_each(|word| digest.absorb(*word));
+        [2, 0, 0, 1, 0].iter().for_each(|word| digest.absorb(*word));
         digest.absorb(2);
         for two in [[9, 0], [1, 2], [0, 1]] {
             two.iter().for_each(|word| digest.absorb(*word));
@@ -416,6 +427,7 @@ mod tests {
             (0..5).for_each(|_| digest.absorb(0));
             rest.iter().for_each(|word| digest.absorb(*word));
             (0..2).for_each(|_| digest.absorb(0));
+            [1, 0].iter().for_each(|word| digest.absorb(*word));
         }
         assert_eq!(desk.output(), format!("0 {}\n", digest.digits()));
     }

@@ -61,8 +61,8 @@ pub const MATCHES: &[&str] = &[
     "table:",
 ];
 
-/// Adds a name's letters to r0, which goes on from pen to pen, and keeps the sum
-/// on a stack. It meets an illegal opcode where the name is empty, and goes on
+/// Adds a name's letters to r0, which goes on from pen to pen, and puts the sum
+/// on a stack, from where it takes r0. It meets an illegal opcode where the name is empty, and goes on
 /// for ever where the first letter is `odd`.
 pub const SUMS: &[&str] = &[
     "start:",
@@ -90,6 +90,7 @@ pub const SUMS: &[&str] = &[
     "ldnzis pc, pc",
     "@letter",
     "ddsto sp, r0",
+    "ld r0, sp",
     "done:",
     "ld pc, pc",
     "@start",
@@ -157,6 +158,7 @@ impl Firmware {
 #[cfg(test)]
 mod tests {
     use super::*;
+    use crate::bus::Stretch;
     use crate::night::{self, Night};
     use crate::pens::{Lists, Setup};
 
@@ -169,6 +171,7 @@ mod tests {
         let night = Night {
             ram: 0x0400,
             slots: 0,
+            stretch: Stretch::NONE,
             firmware: (firmware.start, &firmware.bytes),
             pens: pens.as_bytes(),
             lists: Lists {

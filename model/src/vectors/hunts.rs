@@ -3,6 +3,7 @@
 
 use super::programs;
 use super::script::Script;
+use super::stretches;
 use crate::cpu::PC;
 use crate::machine::Call;
 use crate::watched::{Entry, BREAK, WATCH};
@@ -39,9 +40,10 @@ pub fn write(script: &mut Script) {
     }
 }
 
-/// Some rounds, each with a list of its own.
+/// Some rounds, each with a list of its own, and most with a stretch.
 fn hunt(script: &mut Script) {
     for _ in 0..20 {
+        stretches::any(script);
         let list = list(script);
         script.list(&list);
         for _ in 0..4 {
@@ -100,7 +102,7 @@ fn list(script: &mut Script) -> Vec<Entry> {
 
 /// Where pc comes in the next steps, and the addresses that they store to;
 /// they are taken on a copy.
-fn path(script: &Script) -> (Vec<u16>, Vec<u16>) {
+pub fn path(script: &Script) -> (Vec<u16>, Vec<u16>) {
     let desk = &script.desk;
     let (mut cpu, mut ram) = (desk.machine.cpu, desk.ram[..desk.ram_length].to_vec());
     let (mut pcs, mut stored) = (vec![cpu.registers[PC]], Vec::new());

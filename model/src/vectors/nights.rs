@@ -4,6 +4,7 @@
 use super::firmware::{Firmware, MATCHES, SUMS};
 use super::manifests;
 use super::Random;
+use crate::bus::Stretch;
 use crate::cpu::{F, PC};
 use crate::names::ALIASES;
 use crate::night::{self, Night};
@@ -41,6 +42,8 @@ struct Plan {
     slots: usize,
     firmware: Firmware,
     setup: Setup,
+    /// The protected addresses, where they are given.
+    stretch: Option<Stretch>,
     pens: Vec<u8>,
     today: Vec<u8>,
     last_good: Vec<u8>,
@@ -77,12 +80,15 @@ impl Plan {
         };
         let known = known(random, &numbers, lists);
         let firmware = firmware(random, address, &known);
-        let setup = setup(random, address, &firmware);
+        let mut setup = setup(random, address, &firmware);
+        let stack = stack(random, ram, &mut setup);
+        let stretch = stretch(random, address, stack, &firmware);
         Plan {
             ram,
             slots,
             firmware,
             setup,
+            stretch,
             pens,
             today,
             last_good,
@@ -97,17 +103,22 @@ impl Plan {
             budget,
             ..
         } = self.setup;
-        let mut arguments = vec!["--at".to_string(), number(random, address)];
-        arguments.extend(["--stop".to_string(), number(random, stop)]);
-        arguments.extend(["--budget".to_string(), number(random, budget)]);
+        let mut options = vec![format!("--at\n{}\n", number(random, address))];
+        options.push(format!("--stop\n{}\n", number(random, stop)));
+        options.push(format!("--budget\n{}\n", number(random, budget)));
         for (register, content) in &self.setup.registers {
             let given = format!("{}={}", called(random, *register), number(random, *content));
-            arguments.extend(["--set".to_string(), given]);
+            options.push(format!("--set\n{given}\n"));
         }
-        arguments.extend(["--ram".to_string(), self.ram.to_string()]);
-        arguments.extend(["--slots".to_string(), self.slots.to_string()]);
-        arguments.extend([FIRMWARE, PENS, TODAY, LAST_GOOD].map(str::to_string));
-        arguments.iter().map(|one| format!("{one}\n")).collect()
+        options.push(format!("--ram\n{}\n", self.ram));
+        options.push(format!("--slots\n{}\n", self.slots));
+        if let Some(Stretch { first, last }) = self.stretch {
+            let (first, last) = (number(random, first), number(random, last));
+            let place = random.below(options.len() + 1);
+            options.insert(place, format!("--protect\n{first}\n{last}\n"));
+        }
+        options.extend([FIRMWARE, PENS, TODAY, LAST_GOOD].map(|file| format!("{file}\n")));
+        options.concat()
     }
 
     /// The bench's output.
@@ -115,6 +126,7 @@ impl Plan {
         night::output(&Night {
             ram: self.ram,
             slots: self.slots,
+            stretch: self.stretch.unwrap_or(Stretch::NONE),
             firmware: (self.firmware.start, &self.firmware.bytes),
             pens: &self.pens,
             lists: Lists {
@@ -152,7 +164,7 @@ fn known(random: &mut Random, numbers: &[u32], lists: Lists) -> Vec<Vec<u8>> {
 /// The firmware, with a table of names.
 fn firmware(random: &mut Random, address: u16, known: &[Vec<u8>]) -> Firmware {
     let start = random.pick(&STARTS);
-    if random.below(3) == 0 {
+    if random.below(2) == 0 {
         let odd = random.pick(&[b'F', b'l', b'x', 0xc5]);
         let labels = [("name", address), ("odd", u16::from(odd))];
         return Firmware::new(start, SUMS, b"", labels);
@@ -184,6 +196,37 @@ fn setup(random: &mut Random, address: u16, firmware: &Firmware) -> Setup {
     let mut words = vec![address, firmware.label(stop), random.pick(&BUDGETS)];
     words.extend(registers.concat());
     Setup::of_words(&words)
+}
+
+/// Where the firmware's stack ends: in RAM, unless sp is given already.
+fn stack(random: &mut Random, ram: usize, setup: &mut Setup) -> u16 {
+    let is_sp = |given: &&(u16, u16)| given.0 == SP;
+    if let Some((_, content)) = setup.registers.iter().rfind(is_sp) {
+        return *content;
+    }
+    let end = (ram - 300 + random.below(50)) as u16;
+    if random.below(4) != 0 {
+        setup.registers.push((SP, end));
+    }
+    end
+}
+
+/// What is protected, in two nights of three: what the firmware pushes or one
+/// byte of it, where names go, the firmware, all, or nothing.
+fn stretch(random: &mut Random, name: u16, stack: u16, firmware: &Firmware) -> Option<Stretch> {
+    let pushed = stack.wrapping_sub(2);
+    let (first, last) = match random.below(15) {
+        0..=4 => return None,
+        5 | 6 => (pushed, pushed),
+        7 | 8 => (pushed.wrapping_add(1), pushed.wrapping_add(1)),
+        9 => (pushed.saturating_sub(20), pushed.saturating_add(20)),
+        10 => (name, name.saturating_add(20)),
+        11 => (firmware.start, firmware.start + firmware.bytes.len() as u16),
+        12 => (0, name),
+        13 => (stack, pushed),
+        _ => (0, 0xffff),
+    };
+    Some(Stretch { first, last })
 }
 
 /// A number as the desk reads it.
@@ -260,12 +303,28 @@ mod tests {
         }
     }
 
+    /// Some nights come out otherwise than they would with nothing protected.
+    #[test]
+    fn stretches_that_matter() {
+        let plans = || (0..SEEDS).map(|seed| Plan::new(&mut Random::new(seed)));
+        assert!((5..20).contains(&plans().filter(|plan| plan.stretch.is_none()).count()));
+        let matters = |plan: &mut Plan| {
+            let expected = plan.expected();
+            plan.stretch = None;
+            expected != plan.expected()
+        };
+        let count = plans()
+            .filter_map(|mut plan| matters(&mut plan).then_some(()))
+            .count();
+        assert!(count >= 5, "{count}");
+    }
+
     #[test]
     fn arguments_are_as_the_bench_takes_them() {
         for seed in 0..SEEDS {
             let arguments = String::from_utf8(file(seed, ARGUMENTS)).expect("ASCII");
             let arguments: Vec<&str> = arguments.lines().collect();
-            assert_eq!(arguments[0], "--at");
+            assert!(["--at", "--protect"].contains(&arguments[0]));
             let files = &arguments[arguments.len() - 4..];
             assert_eq!(files, [FIRMWARE, PENS, TODAY, LAST_GOOD]);
         }

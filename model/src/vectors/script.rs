@@ -100,6 +100,11 @@ impl Script {
         self.command(desk::SET_HELD, 0, held, 0);
     }
 
+    /// Sets the protected addresses.
+    pub fn stretch(&mut self, first: u16, last: u16) {
+        self.command(desk::SET_STRETCH, 0, first, last);
+    }
+
     /// Makes these entries the list; what stands there already is not written
     /// again.
     pub fn list(&mut self, entries: &[Entry]) {

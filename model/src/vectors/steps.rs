@@ -2,11 +2,11 @@
 //! word is run once.
 
 use super::{Digest, Random};
-use crate::bus::{self, CLOCK_LOW, RXD};
+use crate::bus::{self, Stretch, CLOCK_LOW, RXD};
 use crate::cpu::{Cpu, Effect, F, PC};
 
 /// The bytes of one record.
-const RECORD: usize = 52;
+const RECORD: usize = 56;
 
 /// Lengths of small RAMs: most registers point past them, and some of the
 /// addresses that matter are close together.
@@ -51,13 +51,17 @@ impl State {
         words.push(self.cpu.keyboard());
         let marks = self.cpu.marks() as u8;
         words.push(u16::from_le_bytes([marks, self.fill]));
+        words.extend([self.cpu.stretch.first, self.cpu.stretch.last]);
         words.iter().flat_map(|word| word.to_le_bytes()).collect()
     }
 
     /// The state of a record.
     fn decode(record: &[u8]) -> State {
         let word = |index: usize| u16::from_le_bytes([record[2 * index], record[2 * index + 1]]);
-        let mut cpu = Cpu::new();
+        let mut cpu = Cpu::new(Stretch {
+            first: word(26),
+            last: word(27),
+        });
         for (index, register) in cpu.registers.iter_mut().enumerate() {
             *register = word(1 + index);
         }
@@ -157,6 +161,7 @@ fn states() -> Vec<State> {
     maker.instructions_at_edges();
     maker.large_rams();
     maker.anything();
+    maker.protect();
     maker.states
 }
 
@@ -176,9 +181,9 @@ impl Maker {
     }
 
     /// Adds a state with this RAM, pc and f; R and T go through all four
-    /// combinations.
+    /// combinations. Nothing is protected yet.
     fn add(&mut self, ram_length: u16, pc: u16, f: u16) {
-        let mut cpu = Cpu::new();
+        let mut cpu = Cpu::new(Stretch::NONE);
         self.fill_registers(&mut cpu.registers, ram_length);
         cpu.registers[PC] = pc;
         cpu.registers[F] = f;
@@ -373,6 +378,40 @@ impl Maker {
             }
         }
     }
+
+    /// Gives two states in three a protected stretch.
+    fn protect(&mut self) {
+        for index in 0..self.states.len() {
+            if index % 3 != 0 {
+                self.states[index].cpu.stretch = self.stretch(index);
+            }
+        }
+    }
+
+    /// A stretch that begins, ends or lies where the state's stores go: at the
+    /// addresses in its registers, and 2 before them for ddsto.
+    fn stretch(&mut self, index: usize) -> Stretch {
+        let ram_length = self.states[index].ram_length;
+        let registers = self.states[index].cpu.registers;
+        let is_ram = |address: &u16| *address < ram_length;
+        let mut places: Vec<u16> = registers[..F].iter().copied().filter(is_ram).collect();
+        places.push(0);
+        let near = self.random.pick(&[0, 0, 1, u16::MAX, u16::MAX - 1]);
+        let place = self.random.pick(&places).wrapping_add(near);
+        let other = self.random.pick(&places);
+        let (first, last) = match self.random.below(12) {
+            0..=3 => (place, place),
+            4 => (place, place.saturating_add(1)),
+            5 => (place, ram_length.saturating_sub(1)),
+            6 => (0, place),
+            7 => (place.min(other), place.max(other)),
+            8 => (ram_length.saturating_sub(1), self.random.pick(&DEVICES)),
+            9 => (place.saturating_add(1), place),
+            10 => (self.random.pick(&DEVICES), 0xffff),
+            _ => (0, 0xffff),
+        };
+        Stretch { first, last }
+    }
 }
 
 #[cfg(test)]
@@ -458,6 +497,40 @@ mod tests {
         }
     }
 
+    /// Where words are stored: by sto to the addresses in registers, by ddsto 2
+    /// before them.
+    fn places(state: &State) -> Vec<u16> {
+        let pointed = &state.cpu.registers[..F];
+        let pushed = pointed.iter().map(|address| address.wrapping_sub(2));
+        pointed.iter().copied().chain(pushed).collect()
+    }
+
+    /// Stores to the first and to the last protected address, beside them, of
+    /// words with one protected byte and with two, and round the end.
+    #[test]
+    fn every_edge_of_a_stretch_is_stored_to() {
+        let ram = [0; 65_504];
+        let drops = |s: &State, at: u16| s.cpu.stretch.drops(&ram[..usize::from(s.ram_length)], at);
+        let met = |is_such: &dyn Fn(&State, u16) -> bool| {
+            let any = |s: &State| places(s).into_iter().any(|at| is_such(s, at));
+            count(|s| !interrupt_is_due(s) && any(s)) >= 2
+        };
+        let stretch = |s: &State| (s.cpu.stretch.first, s.cpu.stretch.last);
+        assert!(met(&|s, at| drops(s, at) && at == stretch(s).0));
+        assert!(met(&|s, at| drops(s, at) && at == stretch(s).1));
+        assert!(met(&|s, at| !drops(s, at) && drops(s, at.wrapping_add(1))));
+        assert!(met(&|s, at| drops(s, at) && !drops(s, at.wrapping_add(1))));
+        assert!(met(&|s, at| drops(s, at) && drops(s, at.wrapping_add(1))));
+        assert!(met(&|s, at| at == 0xffff && drops(s, 0)));
+        let is_inside = |s: &State, at| stretch(s).0 <= at && at <= stretch(s).1;
+        for at in [bus::TXD, RXD, CLOCK_LOW] {
+            assert!(met(&|s, first| first == at && is_inside(s, at)));
+        }
+        assert!(met(&|s, at| at >= s.ram_length && is_inside(s, at)));
+        assert!(count(|s| stretch(s).0 > stretch(s).1 && stretch(s) != (1, 0)) >= 5);
+        assert!(count(|s| stretch(s) == (0, 0xffff)) >= 5);
+    }
+
     #[test]
     fn every_mark_edge_and_reason_occurs() {
         for marks in 0..4 {
@@ -477,7 +550,7 @@ mod tests {
     /// A state whose every step is foreseen: the interrupt is taken.
     #[test]
     fn the_digest_of_a_plain_state() {
-        let mut cpu = Cpu::new();
+        let mut cpu = Cpu::new(Stretch::NONE);
         cpu.registers[F] = 0x0300;
         cpu.registers[PC] = 9;
         let state = State {
@@ -503,7 +576,7 @@ mod tests {
 
     #[test]
     fn words_are_placed() {
-        let mut cpu = Cpu::new();
+        let mut cpu = Cpu::new(Stretch::NONE);
         let mut ram = [0; 3];
         for (pc, after) in [(0, [1, 2, 0]), (2, [1, 2, 1]), (0xffff, [2, 2, 1])] {
             cpu.registers[PC] = pc;

@@ -3,6 +3,7 @@
 
 use super::programs;
 use super::script::Script;
+use super::stretches;
 use crate::machine::Call;
 
 /// Lengths of RAM that have room for a program.
@@ -38,6 +39,7 @@ pub fn write(script: &mut Script) {
     for ram_length in TINY_RAMS {
         for journal_length in [0, 32, 64, 96] {
             script.start(ram_length, journal_length);
+            stretches::any(script);
             for _ in 0..90 {
                 one_call(script);
             }
@@ -61,9 +63,10 @@ fn program_walk(script: &mut Script, turn: usize, ram_length: u16, journal_lengt
     walk(script, 2, 110);
 }
 
-/// Some rounds of calls, each of which is shown.
+/// Some rounds of calls, each with a stretch of its own, and shown.
 fn walk(script: &mut Script, rounds: usize, calls: usize) {
     for _ in 0..rounds {
+        stretches::any(script);
         for _ in 0..calls {
             one_call(script);
         }

@@ -2,7 +2,7 @@
 //! are those of the call vectors, and four more.
 
 use super::script::Script;
-use super::{hunts, stops};
+use super::{hunts, stops, stretches};
 
 /// All commands.
 pub fn input() -> Vec<u8> {
@@ -15,17 +15,18 @@ fn script() -> Script {
     let mut script = Script::new();
     stops::write(&mut script);
     hunts::write(&mut script);
+    stretches::write_watched(&mut script);
     script
 }
 
 #[cfg(test)]
 mod tests {
     use super::*;
-    use crate::vectors::calls::shown;
-    use crate::vectors::desk::{Command, Desk, COMMAND};
     use crate::cpu::{F, IE, PC, PENDING};
     use crate::journal::RECORD;
+    use crate::vectors::calls::shown;
     use crate::vectors::desk::RUN_WATCHED;
+    use crate::vectors::desk::{Command, Desk, COMMAND};
     use crate::vectors::points::Points;
     use crate::watched::{Stop, Told, BREAK, WATCH};
 
@@ -47,6 +48,8 @@ mod tests {
         /// The bytes that its last step wrote and the first address, where the
         /// journal has them.
         stored: (u16, u16),
+        /// Whether a byte that it wrote is watched, and was dropped.
+        dropped: bool,
     }
 
     impl Seen {
@@ -94,6 +97,7 @@ mod tests {
             let before = desk.points.clone();
             desk.obey(command);
             if command.kind == RUN_WATCHED {
+                let stored = newest_written(&desk);
                 seen.push(Seen {
                     told: desk.told.expect("the run was made"),
                     budget: command.a,
@@ -102,7 +106,8 @@ mod tests {
                     after: desk.points.clone(),
                     pc: desk.machine.cpu.registers[PC],
                     f: desk.machine.cpu.registers[F],
-                    stored: newest_written(&desk),
+                    stored,
+                    dropped: is_dropped(&desk, stored),
                 });
             }
         }
@@ -117,6 +122,19 @@ mod tests {
         }
         let start = (desk.machine.next + slots - 1) % slots * RECORD;
         (desk.journal[start + 25], desk.journal[start + 26])
+    }
+
+    /// Whether one of these bytes is watched, and is dropped.
+    fn is_dropped(desk: &Desk, (count, first): (u16, u16)) -> bool {
+        let (stretch, ram) = (desk.machine.cpu.stretch, &desk.ram[..desk.ram_length]);
+        let mut addresses = (0..count).map(|offset| first.wrapping_add(offset));
+        let watches = |at| {
+            desk.points
+                .lent()
+                .iter()
+                .any(|e| (e.kind, e.address) == (WATCH, at))
+        };
+        addresses.any(|at| stretch.drops(ram, at) && watches(at))
     }
 
     #[test]
@@ -184,6 +202,12 @@ mod tests {
         }
         let past = |s: &&Seen| s.is_watch() && usize::from(s.stored.1) >= s.ram;
         assert!(seen.iter().filter(past).count() > 50);
+        let dropped = |watch| {
+            seen.iter()
+                .filter(move |s| s.dropped && s.is_watch() == watch)
+        };
+        let counts = (dropped(false).count(), dropped(true).count());
+        assert!(counts.0 > 15 && counts.1 > 15, "{counts:?}");
     }
 
     /// Several entries are counted, up to 65,535; the first is named, wherever

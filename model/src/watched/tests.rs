@@ -1,7 +1,7 @@
 //! Each sentence of the request, tried.
 
 use super::*;
-use crate::bus::{CLOCK_HIGH, CLOCK_LOW, READY, RXD, TXD};
+use crate::bus::{Stretch, CLOCK_HIGH, CLOCK_LOW, READY, RXD, TXD};
 use crate::cpu::{F, IA};
 use crate::journal::RECORD;
 use crate::machine::{Call, Cause};
@@ -32,7 +32,7 @@ impl Desk {
     /// instructions, low byte first, from address 0 on.
     fn with(words: &[u16]) -> Desk {
         let mut desk = Desk {
-            machine: Machine::new(),
+            machine: Machine::new(Stretch::NONE),
             ram: words.iter().flat_map(|word| word.to_le_bytes()).collect(),
             journal: vec![0; 3 * RECORD],
         };
@@ -205,6 +205,70 @@ fn a_byte_that_only_a_device_takes_is_a_hit() {
         );
         assert_ne!(desk.machine.cpu.devices, before);
     }
+}
+
+/// Which of the addresses 40 and 41 a store to 40 hits with this stretch.
+fn hit_with(first: u16, last: u16, instruction: u16) -> Vec<u16> {
+    let is_hit = |address: &u16| {
+        let mut desk = Desk::storing(&[instruction], 40);
+        desk.machine.cpu.stretch = Stretch { first, last };
+        let mut points = list([(WATCH, *address)]);
+        let (stop, _) = desk.stops(&mut points, 1);
+        assert_eq!(points[0].hits, u16::from(stop == Stop::Watch(0)));
+        stop == Stop::Watch(0)
+    };
+    (40..42).filter(is_hit).collect()
+}
+
+/// "a byte dropped under Q-4 is no hit"
+#[test]
+fn a_dropped_byte_is_no_hit() {
+    assert_eq!(hit_with(1, 0, STO), [40, 41]);
+    assert_eq!(hit_with(40, 40, STO), [41]);
+    assert_eq!(hit_with(41, 41, STO), [40]);
+    assert_eq!(hit_with(40, 41, STO), []);
+    assert_eq!(hit_with(0, 0xffff, STOB), []);
+    assert_eq!(hit_with(41, 40, STOB), [40]);
+}
+
+/// A dropped byte neither stops the run nor is it counted where another entry
+/// stops it.
+#[test]
+fn a_dropped_byte_is_not_counted() {
+    let mut desk = Desk::storing(&[STO, INC, ILL], 40);
+    desk.machine.cpu.stretch = Stretch {
+        first: 41,
+        last: 41,
+    };
+    let mut points = list([(WATCH, 41), (WATCH, 40)]);
+    assert_eq!(desk.stops(&mut points, 9), (Stop::Watch(1), 1));
+    assert_eq!(hits(&points), [0, 1]);
+    let mut points = list([(WATCH, 41), (BREAK, 4)]);
+    desk.machine.cpu.registers[PC] = 0;
+    assert_eq!(desk.stops(&mut points, 9), (Stop::Break(1), 2));
+    assert_eq!(hits(&points), [0, 1]);
+}
+
+/// "an ignored one is", also in the stretch, and so is one for a device.
+#[test]
+fn an_ignored_byte_in_the_stretch_is_a_hit() {
+    for address in [64, TXD, RXD, READY, CLOCK_HIGH, 0xffff] {
+        let mut desk = Desk::storing(&[STOB], address);
+        desk.machine.cpu.stretch = Stretch {
+            first: 0,
+            last: 0xffff,
+        };
+        let mut points = list([(WATCH, address)]);
+        assert_eq!(desk.stops(&mut points, 9), (Stop::Watch(0), 1));
+    }
+    let mut desk = Desk::storing(&[STO], 63);
+    desk.machine.cpu.stretch = Stretch {
+        first: 63,
+        last: 64,
+    };
+    let mut points = list([(WATCH, 63), (WATCH, 64)]);
+    assert_eq!(desk.stops(&mut points, 9), (Stop::Watch(1), 1));
+    assert_eq!(hits(&points), [0, 1]);
 }
 
 #[test]

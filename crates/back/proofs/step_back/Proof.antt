@@ -13,11 +13,11 @@ returns c passed =
 
 returns-2 : tie.Need-returns-2
 returns-2 c passed =
-    let c4 = c .before .before .before .before in let c6 = c4 .before .before in let c7 = c6 .before in let c8 = c7 .before in
-    let c10 = c8 .before .before in let c15 = c10 .before .before .before .before .before in let a = c15 .args in
-    restores (a .m) (now (a .ram)) (now (a .journal)) (c10 .pop .result) (c10 .pop .ensures)
-    (newest-in _ _ _ (sits (worldOf (a .m) (now (a .ram)) (now (a .journal))) passed) (omega arith)) (omega arith) _ _ _ (c8 .is-sound .ensures)
-    (c7 .if2 .taken) (c6 .decode .ensures) (c4 .restore .ensures)
+    let c4 = c .before .before .before .before in let c6 = c4 .before .before in let c9 = c6 .before .before .before in let c10 = c9 .before in let c12 = c10 .before .before in
+    let c17 = c12 .before .before .before .before .before in let a = c17 .args in
+    restores (a .m) (now (a .ram)) (now (a .journal)) (c12 .pop .result) (c12 .pop .ensures)
+    (newest-in _ _ _ (sits (worldOf (a .m) (now (a .ram)) (now (a .journal))) passed) (omega arith)) (omega arith) _ _ _ (c10 .is-sound .ensures)
+    (c9 .if2 .taken) (c6 .decode .ensures) (c4 .restore .ensures)
 
 returns-3 : tie.Need-returns-3
 returns-3 c passed =

@@ -9,7 +9,7 @@ use Rattle.inputs.proofs.reset.Tie as tie
 
 returns : tie.Need-returns
 returns c ram =
-    let c4 = c .before .before .before .before in let c6 = c4 .before .before in let a = c6 .args in
+    let c4 = c .before .before .before .before in let c8 = c4 .before .before .before .before in let a = c8 .args in
     taken (a .m) ram (now (a .journal)) resets _ _ refl (starts (box (a .m .cpu) ram) _ (c4 .reset .ensures)) (c .before .before .accept .ensures ram)
 
 pub reset-spec : {M : Type 1} → statement M

@@ -6,11 +6,10 @@ use Rattle.recording.proofs.recorded_step.Tie as tie
 
 returns : tie.Need-returns
 returns c tells =
-    let c4 = c .before .before .before .before in let c8 = c4 .before .before .before .before in
-    let c14 = c8 .before .before .before .before .before .before in let c16 = c14 .before .before in
-    let c21 = c16 .before .before .before .before .before in let a = c21 .args in
-    turned (now (a .regs)) (now (a .csrs)) (a .board) (now (a .ram)) (now (a .journal)) (a .place) (c8 .step .result) (c14 .push .result) _ _ _ _ _ _
-    (c8 .step .ensures tells) (c16 .encode .ensures) (c14 .push .ensures) (c4 .note .ensures)
+    let c5 = c .before .before .before .before .before in let c9 = c5 .before .before .before .before in let c15 = c9 .before .before .before .before .before .before in
+    let c17 = c15 .before .before in let c23 = c17 .before .before .before .before .before .before in let a = c23 .args in
+    turned (now (a .regs)) (now (a .csrs)) (a .board) (now (a .ram)) (now (a .journal)) (a .place) (c9 .step .result) (c15 .push .result) _ _ _ _ _ _
+    (c9 .step .ensures tells) (c17 .encode .ensures (a .board .stretch)) (c15 .push .ensures) (c5 .note .ensures)
 
 pub recorded-step-spec : {M : Type 1} → statement M
 recorded-step-spec =

@@ -5,7 +5,7 @@ use Rattle.records.proofs.encode.Tie as tie
 
 returns : tie.Need-returns
 unfolding recordWith
-returns c = simp (c .packed .ensures, c .before .marks .ensures, c .before .before .join .ensures)
+returns c p = simp (c .packed .ensures, c .before .marks .ensures, c .before .before .join .ensures)
 
 pub encode-spec : {M : Type 1} → statement M
 encode-spec = tie.close (tie.spec (λ c κs. search needs) (λ c κs. search needs) (λ c κs. search needs) returns)

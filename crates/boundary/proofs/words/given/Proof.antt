@@ -5,8 +5,8 @@ use Rattle.boundary.proofs.words.given.Tie as tie
 
 returns : tie.Need-returns
 returns c =
-    let c7 = c .before .before .before .before .before .before .before in let a = c7 .args in
-    writes (a .m .cpu) (a .m .next) (a .m .held) _ (c .before .encode .ensures)
+    let c8 = c .before .before .before .before .before .before .before .before in let a = c8 .args in
+    writes (a .m .cpu) (a .m .next) (a .m .held) _ (c .before .encode .ensures (a .m .cpu .board .stretch))
 
 pub given-spec : {M : Type 1} → statement M
 given-spec =

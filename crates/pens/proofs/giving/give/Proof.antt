@@ -49,7 +49,9 @@ make-requires : tie.Need-make-requires Inv-loop μ-loop
 make-requires c κs = search needs
 
 add-i : tie.Need-add-i Inv-loop μ-loop
-add-i c = search needs
+add-i c =
+    let c10 = c .before .before .before .before .before .before .before .before .before .before in let c12 = c10 .before .before in let c16 = c12 .before .before .before .before in
+    record { fits = omega (arith, c10 .loop-test .taken, c12 .before2 .ensures, c16 .good .1 .1 .1 .0) }
 
 loop-less : tie.Need-loop-less Inv-loop μ-loop
 loop-less c = search needs

@@ -9,7 +9,7 @@ use Rattle.running.proofs.run.run.Tie as tie
 returns : tie.Need-returns
 returns c =
     let c9 = c .before .before .before .before .before .before .before .before .before in let c12 = c9 .before .before .before in let c21 = c12 .before .before .before .before .before .before .before .before .before in let a = c21 .args in
-    told (a .budget) (worldOf (a .m) (now (a .ram)) (now (a .journal))) (c9 .advance .result) _ _ _ _
+    told (a .m .cpu .board .stretch) (a .budget) (worldOf (a .m) (now (a .ram)) (now (a .journal))) (c9 .advance .result) _ _ _ _
     (rw (c12 .place-of .ensures) at (c9 .advance .ensures))
     ∙ rw (c .machine-of .ensures, c .before .told .ensures)
 
