@@ -1,34 +1,39 @@
 // What the desk and the vector programs print with: pieces of lines, and the digest that stands for many results. No contract can say what is written.
+#![tactic(auto)]
+
 ghost use Rattle.std.specs.Prelude.{◌≡◌, ◌+◌, ◌*◌, ◌%◌};
 
-use libc::STDOUT_FILENO;
-
-pub fn text(bytes: &[u8]) {
-    io::write_all(STDOUT_FILENO, bytes);
+// Where the output takes no more, the rest is let go: nobody is left to be told.
+pub fn text(rt: &impl Print, bytes: &[u8]) {
+    let _ = rt.write_all(bytes);
 }
 
-pub fn space() {
-    text(b" ");
+pub fn space(rt: &impl Print) {
+    text(rt, b" ");
 }
 
-pub fn end() {
-    text(b"\n");
+pub fn end(rt: &impl Print) {
+    text(rt, b"\n");
 }
 
-pub fn hex(n: u64, width: usize) {
-    io::print_hex(STDOUT_FILENO, n, width);
+pub fn hex(rt: &impl Print, n: u64, width: usize) {
+    let mut digits = [0u8; 16];
+    let k = io::hex(n, width, &mut digits);
+    text(rt, &digits[..k]);
 }
 
-pub fn decimal(n: u64) {
-    io::print_decimal(STDOUT_FILENO, n);
+pub fn decimal(rt: &impl Print, n: u64) {
+    let mut digits = [0u8; 20];
+    let k = io::decimal(n, &mut digits);
+    text(rt, &digits[..k]);
 }
 
 // A name that is kept as one number, its first byte lowest.
-pub fn name(key: u64) {
+pub fn name(rt: &impl Print, key: u64) {
     let mut rest = key;
     while rest != 0 {
         let one = [(rest % 256) as u8];
-        text(&one);
+        text(rt, &one);
         rest = rest / 256;
     }
 }
