@@ -1,6 +1,8 @@
 // What the desk and the vector programs print with: pieces of lines, and the digest that stands for many results. No contract can say what is written.
 #![tactic(auto)]
 
+pub mod input;
+
 ghost use Rattle.std.specs.Prelude.{◌≡◌, ◌+◌, ◌*◌, ◌%◌};
 
 // Where the output takes no more, the rest is let go: nobody is left to be told.
