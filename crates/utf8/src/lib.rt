@@ -1,4 +1,6 @@
 // UTF-8 read strictly, and which of it is ISO 8859-1.
+#![tactic(auto)]
+
 ghost use Rattle.std.specs.Prelude.{◌≡◌, true, [], ◌∷◌, ◌+◌, ◌-◌, ◌*◌, ◌≤◌, ◌<◌, length, get_or, drop};
 ghost use Rattle.utf8.specs.Utf8.{between, followed, letter_of};
 ghost use Rattle.utf8.specs.Latin.{judged_of};

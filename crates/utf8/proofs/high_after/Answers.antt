@@ -1,0 +1,15 @@
+use borrow.Author.Tests.{eq-eqb, ne_eqb}
+use Rattle.utf8.specs.Code.{high_after}
+use Rattle.utf8.proofs.high_after.Goals as goal
+
+pub returns-then-lead-eq237 : goal.returns-then-lead-eq237
+unfolding high_after
+returns-then-lead-eq237 c = rw (eq-eqb _ _ c.if-lead-eq237.true)
+
+pub returns-then-lead-eq244 : goal.returns-then-lead-eq244
+unfolding high_after
+returns-then-lead-eq244 c = rw (ne_eqb _ _ c.if-lead-eq237.false, eq-eqb _ _ c.if-lead-eq244.true)
+
+pub returns : goal.returns
+unfolding high_after
+returns c = rw (ne_eqb _ _ c.if-lead-eq237.false, ne_eqb _ _ c.if-lead-eq244.false)
