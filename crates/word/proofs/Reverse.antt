@@ -1,6 +1,6 @@
 -- Swapping neighbouring groups of bits, of 1 bit first, then of 2, of 4 and so on, reverses a number whose width is a power of two: a group whose halves are
 -- reversed is reversed once they are swapped. Once for any such width.
-use Rattle.std.proofs.Common.{◌≡◌, ℕ, zero, suc, ◌+◌, ◌-◌, ◌*◌, ◌/◌, ◌%◌, ◌^◌, ◌<◌, Bool, true, false, ◌&&◌, ◌||◌, eqb, ltb, leb, sym, refl, ◌∙◌, lt_of_le_of_lt, mul-le-mul_right, mod-lt, mul_assoc, suc-mul, mul_comm, pow-suc, zero-add, div-le_self, arith, pow_pos, ltb-false, ltb-true, le-leb}
+use Rattle.std.proofs.Common.{◌≡◌, ℕ, zero, suc, ◌+◌, ◌-◌, ◌*◌, ◌/◌, ◌%◌, ◌^◌, ◌<◌, Bool, true, false, ◌&&◌, ◌||◌, eqb, ltb, leb, sym, refl, subst, ◌∙◌, lt_of_le_of_lt, mul-le-mul_right, mod-lt, mul_assoc, suc-mul, mul_comm, pow-suc, zero-add, div-le_self, arith, pow_pos, ltb-false, ltb-true, le-leb}
 use mathlib.Core.Bool.{and-true, and-false, or-false}
 use borrow.Author.Tests.{lt-leb}
 use lib.Bits.{bit_and, bit_or, and_lt, or_lt}
@@ -149,7 +149,8 @@ all zero c x h =
 all (suc n) c x h =
     let w : ℕ = c * 2 * 2 ^ n in
     let l : x < 2 ^ w = rw (← twice c n) h in
-    rw (twice c n) (doubled n c x (swaps w n x) (swaps-lt w n x l) (all n (c * 2) x l))
+    let P : ℕ → Type 0 = λ v. Reversed (suc n) c x (swaps v (suc n) x) in
+    subst P (sym (twice c n)) (doubled n c x (swaps w n x) (swaps-lt w n x l) (all n (c * 2) x l))
 
 -- 2 ^ k groups of 1 bit become one group of 2 ^ k bits
 pub reverses : (k x : ℕ) → x < 2 ^ (2 ^ k) → swaps (2 ^ k) k x ≡ rev_at (2 ^ k) x
