@@ -1,4 +1,6 @@
 // Letters, digits and blanks.
+#![tactic(auto)]
+
 ghost use Rattle.std.specs.Prelude.{◌≡◌, ◌≤◌};
 ghost use Rattle.letters.specs.Letters.{lower as lowerOf, blank, wordy, hex_value};
 
