@@ -4,7 +4,7 @@ ghost use Rattle.alu.specs.Unit.{flags_of, answer_as, add_of, sub_of, logic_of, 
 
 use word::{bits, choice, signed, sums};
 
-#[derive(Drop)]
+#[derive(Clone, Copy)]
 pub enum AluOp {
     Add,
     And,
@@ -22,14 +22,14 @@ pub enum AluOp {
     Xor,
 }
 
-#[derive(Drop)]
+#[derive(Clone, Copy)]
 pub enum CompareOp {
     Cmpu,
     Cmps,
 }
 
 // A value, and z, c, s, o at their places in f.
-#[derive(Drop)]
+#[derive(Clone, Copy)]
 pub struct Answer {
     pub value: u16,
     pub flags: u16,
@@ -42,7 +42,7 @@ fn flags(z: bool, c: bool, s: bool, o: bool) -> u16
 }
 
 // What an operation finds: z and s, which go by the value, are not yet made.
-#[derive(Drop)]
+#[derive(Clone, Copy)]
 struct Outcome {
     value: u16,
     c: bool,

@@ -3,7 +3,7 @@ ghost use Rattle.std.specs.Prelude.{◌≡◌};
 ghost use Rattle.bus.specs.State.{reset as resetOf, unprotected as noneOf};
 
 // The clock's counter, the keyboard's registers and its ready bits.
-#[derive(Drop)]
+#[derive(Clone, Copy)]
 pub struct Devices {
     pub clock: u16,
     pub rxd: u8,
@@ -13,7 +13,7 @@ pub struct Devices {
 }
 
 // The first and the last protected address, fixed at start; a first above the last means none.
-#[derive(Drop)]
+#[derive(Clone, Copy)]
 pub struct Stretch {
     pub first: u16,
     pub last: u16,
@@ -27,14 +27,14 @@ pub fn unprotected() -> Stretch
 }
 
 // What the state has beside registers and CSRs. It goes through a step and a run as one value, so that a new part of it changes the parameters of no function of either.
-#[derive(Drop)]
+#[derive(Clone, Copy)]
 pub struct Board {
     pub devices: Devices,
     pub halted: bool,
     pub stretch: Stretch,
 }
 
-#[derive(Drop)]
+#[derive(Clone, Copy)]
 pub struct Cpu {
     pub regs: [u16; 16],
     pub csrs: [u16; 6],

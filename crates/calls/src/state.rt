@@ -4,7 +4,7 @@ ghost use Rattle.calls.specs.Calls.{number_of, started};
 
 use bus::state::{Cpu, Stretch};
 
-#[derive(Drop)]
+#[derive(Clone, Copy)]
 pub struct Machine {
     pub cpu: Cpu,
     pub next: usize,
@@ -24,7 +24,7 @@ pub fn start(stretch: Stretch) -> Machine
 }
 
 // The refusals 1 to 9, in the order of their numbers.
-#[derive(Drop)]
+#[derive(Clone, Copy)]
 pub enum Refusal {
     RamTooLong,
     BadJournal,
@@ -38,14 +38,14 @@ pub enum Refusal {
 }
 
 // Why a run stopped.
-#[derive(Drop)]
+#[derive(Clone, Copy)]
 pub enum Stop {
     Budget,
     Halted,
 }
 
 // The steps done, the sum of their bus bytes, and why the run stopped.
-#[derive(Drop)]
+#[derive(Clone, Copy)]
 pub struct Run {
     pub steps: u16,
     pub bus: u32,
@@ -53,7 +53,7 @@ pub struct Run {
 }
 
 // A lone step tells its bus bytes.
-#[derive(Drop)]
+#[derive(Clone, Copy)]
 pub enum Answer {
     Accepted,
     Stepped(u32),
@@ -61,7 +61,7 @@ pub enum Answer {
     Refused(Refusal),
 }
 
-#[derive(Drop)]
+#[derive(Clone, Copy)]
 pub struct Reply {
     pub answer: Answer,
     pub machine: Machine,

@@ -17,7 +17,7 @@ use word::sums;
 
 // What a step leaves, beside the lent registers, CSRs and bytes: the rest of the state, how many bytes it wrote through memory, their first address,
 // what they wrote over, how many bus bytes.
-#[derive(Drop)]
+#[derive(Clone, Copy)]
 pub struct Done {
     pub board: Board,
     pub count: u8,

@@ -17,7 +17,7 @@ use watched::Watched;
 use watching::{Ending, Told};
 
 // The result, and what the stop meets: the hits that rise by it.
-#[derive(Drop)]
+#[derive(Clone, Copy)]
 pub struct Crossing {
     pub result: u64,
     pub met: Met,

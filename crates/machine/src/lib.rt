@@ -9,7 +9,7 @@ use calls::state::{Machine, Reply};
 use running::run;
 
 // The inputs with their arguments, run and step back.
-#[derive(Drop)]
+#[derive(Clone, Copy)]
 pub enum Call {
     Step,
     Tick,

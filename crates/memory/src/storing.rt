@@ -12,7 +12,7 @@ use isa::opcode::StoreOp;
 use word::{halves, sums};
 
 // What a store leaves, beside the lent registers and bytes.
-#[derive(Drop)]
+#[derive(Clone, Copy)]
 pub struct Written {
     pub board: Board,
     pub count: u8,

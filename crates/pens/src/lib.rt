@@ -18,7 +18,7 @@ use utf8::Judged;
 use watching::Ending;
 
 // A pen's answer: the refusal's number (0: accepted), where its name lies, r0, the run's steps and bus bytes, why it stopped, and the machine.
-#[derive(Drop)]
+#[derive(Clone, Copy)]
 pub struct Report {
     pub number: u8,
     pub held: Held,

@@ -13,7 +13,7 @@ use machine::Call;
 use utf8::Letter;
 
 // A single byte, and where the name goes on.
-#[derive(Drop)]
+#[derive(Clone, Copy)]
 struct Single {
     byte: u8,
     next: usize,

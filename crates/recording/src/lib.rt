@@ -9,7 +9,7 @@ use cpu::step;
 use history::Place;
 
 // What a recorded step leaves, beside what was lent to it: the rest of the state, next slot and records held, and what the step told.
-#[derive(Drop)]
+#[derive(Clone, Copy)]
 pub struct Recorded {
     pub board: Board,
     pub place: Place,

@@ -9,7 +9,7 @@ use bus::state::{Board, Cpu, Devices, Stretch};
 use word::{bits, choice, halves};
 
 // What a record keeps.
-#[derive(Drop)]
+#[derive(Clone, Copy)]
 pub struct Before {
     pub cpu: Cpu,
     pub count: u16,

@@ -17,14 +17,14 @@ use running::run;
 use watching::{Ending, Told};
 
 // The refusal's number (0: accepted), what the run tells, and the machine.
-#[derive(Drop)]
+#[derive(Clone, Copy)]
 pub struct Watched {
     pub number: u8,
     pub told: Told,
     pub machine: Machine,
 }
 
-#[derive(Drop)]
+#[derive(Clone, Copy)]
 struct Stopped {
     machine: Machine,
     told: Told,

@@ -16,7 +16,7 @@ use names::register::PC;
 use word::sums;
 
 // Why a watched run stopped; a refused one did not run.
-#[derive(Drop)]
+#[derive(Clone, Copy)]
 pub enum Ending {
     Refused,
     Budget,
@@ -26,7 +26,7 @@ pub enum Ending {
 }
 
 // The steps done, the sum of their bus bytes, why the run stopped, the entries that the stop meets, and the place of the one that is named.
-#[derive(Drop)]
+#[derive(Clone, Copy)]
 pub struct Told {
     pub steps: u16,
     pub bus: u32,
@@ -36,7 +36,7 @@ pub struct Told {
 }
 
 // What a run leaves beside the registers and CSRs that were lent to it.
-#[derive(Drop)]
+#[derive(Clone, Copy)]
 pub struct Ended {
     pub board: Board,
     pub place: Place,
