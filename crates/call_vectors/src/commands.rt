@@ -1,7 +1,7 @@
 // The commands of the vectors: six bytes each, a kind, a byte y, and the words a and b, low byte first.
 use word::halves;
 
-#[derive(Drop)]
+#[derive(Clone, Copy)]
 pub struct Command {
     pub kind: u8,
     pub y: u8,

@@ -1,4 +1,6 @@
 // Makes the calls of the independent model's commands; the digests that it prints are compared with the model's.
+#![tactic(auto)]
+
 mod buffers;
 mod commands;
 mod digest;
@@ -10,7 +12,7 @@ mod state;
 ghost use Rattle.std.specs.Prelude.{◌≡◌, length};
 
 use commands::Command;
-use libc::STDIN_FILENO;
+use report::input::read_full;
 use state::Desk;
 
 // Of each of the three rooms the `ensures` gives only the length, so that no proof writes the zeros out.
@@ -32,7 +34,7 @@ fn journal_room() -> [u16; 33000]
     [0u16; 33000]
 }
 
-fn obeyed(d: Desk, c: Command, ram: &mut [u8], journal: &mut [u16]) -> Desk {
+fn obeyed(rt: &impl Print, d: Desk, c: Command, ram: &mut [u8], journal: &mut [u16]) -> Desk {
     if c.kind < 9 {
         return requests::made(d, c, ram, journal);
     }
@@ -42,24 +44,24 @@ fn obeyed(d: Desk, c: Command, ram: &mut [u8], journal: &mut [u16]) -> Desk {
     if (20 < c.kind) & (c.kind < 24) {
         return lists::arranged(d, c);
     }
-    settings::arranged(d, c, ram, journal)
+    settings::arranged(rt, d, c, ram, journal)
 }
 
-fn run(input: &[u8], ram: &mut [u8], journal: &mut [u16]) {
+fn run(rt: &impl Print, input: &[u8], ram: &mut [u8], journal: &mut [u16]) {
     let mut d = state::opened();
     let mut at = 0;
     while 6 <= input.len() - at {
         let end = at + 6;
         let c = commands::read(&input[at..end]);
-        d = obeyed(d, c, ram, journal);
+        d = obeyed(rt, d, c, ram, journal);
         at = end;
     }
 }
 
-fn main() {
+fn main(rt: HostRuntime) {
     let mut input = input_room();
     let mut ram = ram_room();
     let mut journal = journal_room();
-    let n = io::read_full(STDIN_FILENO, &mut input);
-    run(&input[..n], &mut ram, &mut journal);
+    let n = read_full(&mut rt.stdin(), &mut input);
+    run(&rt, &input[..n], &mut ram, &mut journal);
 }

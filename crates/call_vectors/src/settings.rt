@@ -111,15 +111,15 @@ fn started(d: Desk, from: u8, ram: &mut [u8], journal: &mut [u16]) -> Desk {
 }
 
 // A line, from whose digest the next goes on. There are fewer than 65,536 lines.
-fn shown(d: Desk, ram: &[u8], journal: &[u16]) -> Desk {
+fn shown(rt: &impl Print, d: Desk, ram: &[u8], journal: &[u16]) -> Desk {
     let bytes = state::lent(d.ram, ram.len());
     let words = state::lent(d.journal, journal.len());
     let g = digest::bytes(d.digest, &ram[0..bytes]);
     let h = digest::words(g, &journal[0..words]);
-    report::decimal(d.line as u64);
-    report::space();
-    report::hex(h, 8);
-    report::end();
+    report::decimal(rt, d.line as u64);
+    report::space(rt);
+    report::hex(rt, h, 8);
+    report::end(rt);
     let machine = d.machine;
     let points = d.points;
     let hits = d.hits;
@@ -134,7 +134,7 @@ fn shown(d: Desk, ram: &[u8], journal: &[u16]) -> Desk {
     }
 }
 
-pub fn arranged(d: Desk, c: Command, ram: &mut [u8], journal: &mut [u16]) -> Desk {
+pub fn arranged(rt: &impl Print, d: Desk, c: Command, ram: &mut [u8], journal: &mut [u16]) -> Desk {
     let kind = c.kind;
     match kind {
         9 => {
@@ -148,7 +148,7 @@ pub fn arranged(d: Desk, c: Command, ram: &mut [u8], journal: &mut [u16]) -> Des
             buffers::put_byte(ram, c.a, c.y);
             d
         }
-        17 => shown(d, ram, journal),
+        17 => shown(rt, d, ram, journal),
         _ => with_machine(d, c),
     }
 }

@@ -5,7 +5,7 @@ use calls::state::Machine;
 use entries::Points;
 
 // The list is addresses and kinds, with the hits beside them. The lengths are of the parts that are lent, from the beginnings of the buffers.
-#[derive(Drop)]
+#[derive(Clone, Copy)]
 pub struct Desk {
     pub machine: Machine,
     pub points: Points,

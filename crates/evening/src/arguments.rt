@@ -3,13 +3,12 @@ ghost use Rattle.std.specs.Prelude.{◌≤◌, ◌<◌};
 
 use crate::given;
 use console::{texts, version, words};
-use libc::{STDERR_FILENO, STDOUT_FILENO};
 use night::notes;
 
 // Where the last register stands that can be given: the setup has three words before the first, and two for each of 64.
 const LAST: usize = 129;
 
-#[derive(Drop)]
+#[derive(Clone, Copy)]
 pub struct Settings {
     pub ram: usize,
     pub words: usize,
@@ -28,9 +27,9 @@ pub struct Settings {
     pub is_good: bool,
 }
 
-fn usage(file: i32) {
-    io::write_all(
-        file,
+fn usage(to: &impl Print) {
+    report::text(
+        to,
         b"usage: pens --at ADDR --stop ADDR [--budget N] [--set REG=VALUE].. [--ram N] [--slots N] [--protect FIRST LAST] FIRMWARE PENS TODAY LASTGOOD
 ",
     );
@@ -43,29 +42,30 @@ fn ended(s: Settings) -> Settings {
     e
 }
 
-fn bad(s: Settings, what: &[u8], i: usize) -> Settings {
+fn bad(rt: &HostRuntime, s: Settings, what: &[u8], i: usize) -> Settings {
     let mut room = io::buffer();
-    let n = os::arg(i, &mut room);
-    notes::complain(what, words::front(&room, n));
-    usage(STDERR_FILENO);
+    let n = given::argument(rt, i, &mut room);
+    notes::complain(rt, what, words::front(&room, n));
+    usage(&rt.stderr());
     ended(s)
 }
 
-fn missing(s: Settings, what: &[u8]) -> Settings {
-    notes::say(what);
-    usage(STDERR_FILENO);
+fn missing(rt: &HostRuntime, s: Settings, what: &[u8]) -> Settings {
+    notes::say(rt, what);
+    usage(&rt.stderr());
     ended(s)
 }
 
-fn told_version(s: Settings) -> Settings {
-    version::show();
+fn told_version(rt: &HostRuntime, s: Settings) -> Settings {
+    version::show(rt);
     ended(s)
 }
 
-fn told_help(s: Settings) -> Settings {
-    version::show();
-    usage(STDOUT_FILENO);
+fn told_help(rt: &HostRuntime, s: Settings) -> Settings {
+    version::show(rt);
+    usage(rt);
     report::text(
+        rt,
         b"    --at ADDR             where each pen's name is poked, with a closing 0
     --stop ADDR           where the matching routine is done: its run stops when pc is this address
     --budget N            the most steps of a run, 0 to 65535; 65535 unless given
@@ -91,52 +91,66 @@ fn store(setup: &mut [u16], i: usize, word: u16) {
 }
 
 // The number in an argument, or 65,536 where there is none in it.
-fn number_in(i: usize) -> u32 {
+fn number_in(rt: &HostRuntime, i: usize) -> u32 {
     let mut room = io::buffer();
-    let n = os::arg(i, &mut room);
+    let n = given::argument(rt, i, &mut room);
     given::bits(words::front(&room, n), false)
 }
 
 // A word of the setup.
-fn with_word(s: Settings, setup: &mut [u16], place: usize, what: &[u8], i: usize) -> Settings {
-    let n = number_in(i);
+fn with_word(
+    rt: &HostRuntime,
+    s: Settings,
+    setup: &mut [u16],
+    place: usize,
+    what: &[u8],
+    i: usize,
+) -> Settings {
+    let n = number_in(rt, i);
     if 65535 < n {
-        return bad(s, what, i);
+        return bad(rt, s, what, i);
     }
     store(setup, place, n as u16);
     s
 }
 
-fn with_at(s: Settings, setup: &mut [u16], i: usize) -> Settings {
-    let mut e = with_word(s, setup, 0, b"--at needs an address from 0 to 65535", i);
+fn with_at(rt: &HostRuntime, s: Settings, setup: &mut [u16], i: usize) -> Settings {
+    let mut e = with_word(rt, s, setup, 0, b"--at needs an address from 0 to 65535", i);
     e.has_at = true;
     e
 }
 
-fn with_stop(s: Settings, setup: &mut [u16], i: usize) -> Settings {
-    let mut e = with_word(s, setup, 1, b"--stop needs an address from 0 to 65535", i);
+fn with_stop(rt: &HostRuntime, s: Settings, setup: &mut [u16], i: usize) -> Settings {
+    let mut e = with_word(
+        rt,
+        s,
+        setup,
+        1,
+        b"--stop needs an address from 0 to 65535",
+        i,
+    );
     e.has_stop = true;
     e
 }
 
-fn bad_pair(s: Settings, i: usize) -> Settings {
-    bad(s, b"--set needs REG=VALUE, as r1=0x300", i)
+fn bad_pair(rt: &HostRuntime, s: Settings, i: usize) -> Settings {
+    bad(rt, s, b"--set needs REG=VALUE, as r1=0x300", i)
 }
 
 // Two words more.
-fn with_pair(s: Settings, setup: &mut [u16], word: &[u8], i: usize) -> Settings {
+fn with_pair(rt: &HostRuntime, s: Settings, setup: &mut [u16], word: &[u8], i: usize) -> Settings {
     let p = given::read(word);
     let register = p.register;
     let content = p.content;
     let n = s.setup;
     if 65535 < register {
-        return bad_pair(s, i);
+        return bad_pair(rt, s, i);
     }
     if 65535 < content {
-        return bad_pair(s, i);
+        return bad_pair(rt, s, i);
     }
     if LAST < n {
-        return bad(s, b"no more than 64 registers can be given", i);
+        return bad(rt, s, b"no more than 64 registers can be given", i);
     }
     store(setup, n, register as u16);
     store(setup, n + 1, content as u16);
@@ -145,48 +159,49 @@ fn with_pair(s: Settings, setup: &mut [u16], word: &[u8], i: usize) -> Settings 
     e
 }
 
-fn with_register(s: Settings, setup: &mut [u16], i: usize) -> Settings {
+fn with_register(rt: &HostRuntime, s: Settings, setup: &mut [u16], i: usize) -> Settings {
     let mut room = io::buffer();
-    let n = os::arg(i, &mut room);
-    with_pair(s, setup, words::front(&room, n), i)
+    let n = given::argument(rt, i, &mut room);
+    with_pair(rt, s, setup, words::front(&room, n), i)
 }
 
-fn with_ram(s: Settings, i: usize) -> Settings {
-    let n = number_in(i);
+fn with_ram(rt: &HostRuntime, s: Settings, i: usize) -> Settings {
+    let n = number_in(rt, i);
     if 65504 < n {
-        return bad(s, b"--ram needs a number of bytes from 0 to 65504", i);
+        return bad(rt, s, b"--ram needs a number of bytes from 0 to 65504", i);
     }
     let mut e = s;
     e.ram = n as usize;
     e
 }
 
-fn with_slots(s: Settings, i: usize) -> Settings {
-    let n = number_in(i);
+fn with_slots(rt: &HostRuntime, s: Settings, i: usize) -> Settings {
+    let n = number_in(rt, i);
     if 1024 < n {
-        return bad(s, b"--slots needs a number from 0 to 1024", i);
+        return bad(rt, s, b"--slots needs a number from 0 to 1024", i);
     }
     let mut e = s;
     e.words = n as usize * 32;
     e
 }
 
-fn bad_stretch(s: Settings, i: usize) -> Settings {
+fn bad_stretch(rt: &HostRuntime, s: Settings, i: usize) -> Settings {
     bad(
+        rt,
         s,
         b"--protect needs a first and a last address from 0 to 65535",
         i,
     )
 }
 
-fn with_stretch(s: Settings, i: usize) -> Settings {
-    let first = number_in(i);
-    let last = number_in(next(i));
+fn with_stretch(rt: &HostRuntime, s: Settings, i: usize) -> Settings {
+    let first = number_in(rt, i);
+    let last = number_in(rt, next(i));
     if 65535 < first {
-        return bad_stretch(s, i);
+        return bad_stretch(rt, s, i);
     }
     if 65535 < last {
-        return bad_stretch(s, next(i));
+        return bad_stretch(rt, s, next(i));
     }
     let mut e = s;
     e.first = first as u16;
@@ -194,7 +209,7 @@ fn with_stretch(s: Settings, i: usize) -> Settings {
     e
 }
 
-fn with_file(s: Settings, i: usize) -> Settings {
+fn with_file(rt: &HostRuntime, s: Settings, i: usize) -> Settings {
     let mut e = s;
     if s.firmware == 0 {
         e.firmware = i;
@@ -212,7 +227,7 @@ fn with_file(s: Settings, i: usize) -> Settings {
         e.last_good = i;
         return e;
     }
-    bad(s, b"there are more than four files", i)
+    bad(rt, s, b"there are more than four files", i)
 }
 
 // Which option a word is: its line here; 10 is another that begins with a minus sign, 255 none.
@@ -228,32 +243,33 @@ fn option_in(word: &[u8]) -> u8 {
     n
 }
 
-fn option(i: usize) -> u8 {
+fn option(rt: &HostRuntime, i: usize) -> u8 {
     let mut room = io::buffer();
-    let n = os::arg(i, &mut room);
+    let n = given::argument(rt, i, &mut room);
     option_in(words::front(&room, n))
 }
 
 // One argument that does not follow an option.
-fn with_argument(s: Settings, setup: &mut [u16], kind: u8, i: usize) -> Settings {
+fn with_argument(rt: &HostRuntime, s: Settings, setup: &mut [u16], kind: u8, i: usize) -> Settings {
     match kind {
-        0 => with_at(s, setup, next(i)),
-        1 => with_stop(s, setup, next(i)),
+        0 => with_at(rt, s, setup, next(i)),
+        1 => with_stop(rt, s, setup, next(i)),
         2 => with_word(
+            rt,
             s,
             setup,
             2,
             b"--budget needs a number of steps from 0 to 65535",
             next(i),
         ),
-        3 => with_register(s, setup, next(i)),
-        4 => with_ram(s, next(i)),
-        5 => with_slots(s, next(i)),
-        6 => with_stretch(s, next(i)),
-        7 => told_version(s),
-        8 | 9 => told_help(s),
-        10 => bad(s, b"there is no such option", i),
-        _ => with_file(s, i),
+        3 => with_register(rt, s, setup, next(i)),
+        4 => with_ram(rt, s, next(i)),
+        5 => with_slots(rt, s, next(i)),
+        6 => with_stretch(rt, s, next(i)),
+        7 => told_version(rt, s),
+        8 | 9 => told_help(rt, s),
+        10 => bad(rt, s, b"there is no such option", i),
+        _ => with_file(rt, s, i),
     }
 }
 
@@ -287,15 +303,23 @@ fn following(i: usize, n: usize, kind: u8) -> usize
     n
 }
 
-fn whole(s: Settings) -> Settings {
+fn whole(rt: &HostRuntime, s: Settings) -> Settings {
     if !s.has_at {
-        return missing(s, b"--at is needed: where each pen's name is poked");
+        return missing(rt, s, b"--at is needed: where each pen's name is poked");
     }
     if !s.has_stop {
-        return missing(s, b"--stop is needed: where the matching routine is done");
+        return missing(
+            rt,
+            s,
+            b"--stop is needed: where the matching routine is done",
+        );
     }
     if s.last_good == 0 {
-        return missing(s, b"four files are needed: FIRMWARE PENS TODAY LASTGOOD");
+        return missing(
+            rt,
+            s,
+            b"four files are needed: FIRMWARE PENS TODAY LASTGOOD",
+        );
     }
     s
 }
@@ -319,17 +343,17 @@ fn beginning(setup: &mut [u16]) -> Settings {
 }
 
 // The settings; the setup's words are put into the room for them.
-pub fn read(setup: &mut [u16]) -> Settings {
+pub fn read(rt: &HostRuntime, setup: &mut [u16]) -> Settings {
     let mut s = beginning(setup);
-    let n = os::arg_count();
+    let n = given::argument_count(rt);
     let mut i: usize = 1;
     while i < n {
-        let kind = option(i);
-        s = with_argument(s, setup, kind, i);
+        let kind = option(rt, i);
+        s = with_argument(rt, s, setup, kind, i);
         if !s.is_good {
             return s;
         }
         i = following(i, n, kind);
     }
-    whole(s)
+    whole(rt, s)
 }

@@ -1,10 +1,14 @@
 // Files that are read whole, and what is wrong with them.
+use crate::given;
 use console::words;
-use libc::{EACCES, EISDIR, ENOENT, STDOUT_FILENO};
 use night::notes;
+use report::input::read_full;
+use std::fs::File;
+use std::io::{Error, ErrorKind, Read};
+use std::str;
 
 // How many bytes of a file stand in the room.
-#[derive(Drop)]
+#[derive(Clone, Copy)]
 pub struct Bytes {
     pub length: usize,
     pub is_good: bool,
@@ -17,105 +21,113 @@ fn none() -> Bytes {
     }
 }
 
-// Why a file could not be opened or read, just after that.
-fn unread(path: &[u8]) -> Bytes {
-    reason(os::errno(), path);
+// Why a file could not be opened or read.
+fn unread(rt: &HostRuntime, why: ErrorKind, path: &[u8]) -> Bytes {
+    reason(rt, why, path);
     none()
 }
 
-fn reason(number: i32, path: &[u8]) {
-    if number == ENOENT {
-        notes::complain(b"there is no such file", path);
+fn reason(rt: &HostRuntime, why: ErrorKind, path: &[u8]) {
+    if why == ErrorKind::NotFound {
+        notes::complain(rt, b"there is no such file", path);
         return;
     }
-    if number == EACCES {
-        notes::complain(b"this file may not be read by you", path);
+    if why == ErrorKind::PermissionDenied {
+        notes::complain(rt, b"this file may not be read by you", path);
         return;
     }
-    if number == EISDIR {
-        notes::complain(b"this is a folder, not a file", path);
+    if why == ErrorKind::IsADirectory {
+        notes::complain(rt, b"this is a folder, not a file", path);
         return;
     }
-    notes::complain(b"the file cannot be read", path);
+    notes::complain(rt, b"the file cannot be read", path);
 }
 
-// Whether nothing more is to be read. What a read cannot get is not the end.
-fn is_at_end(file: i32) -> bool {
+// Whether nothing more is to be read. What a read cannot get is not the end, and its reason is told.
+fn at_end(file: &mut File) -> Result<(), ErrorKind> {
     let mut one = [0u8; 1];
-    libc::read(file, &mut one) == 0
+    match file.read(&mut one) {
+        Ok(0) => Ok(()),
+        Ok(_) => Err(ErrorKind::Other),
+        Err(e) => Err(e.kind()),
+    }
 }
 
-fn too_long(path: &[u8], most: usize) -> Bytes {
-    notes::begin();
-    notes::text(b"the file has more than ");
-    notes::decimal(most as u64);
-    notes::text(b" bytes: ");
-    notes::show(path);
-    notes::end();
+fn too_long(rt: &HostRuntime, path: &[u8], most: usize) -> Bytes {
+    notes::begin(rt);
+    notes::text(rt, b"the file has more than ");
+    notes::decimal(rt, most as u64);
+    notes::text(rt, b" bytes: ");
+    notes::show(rt, path);
+    notes::end(rt);
     none()
 }
 
 // All of an open file. The room has one byte more than the file may have.
-fn contents(file: i32, path: &[u8], out: &mut [u8]) -> Bytes {
-    let n = io::read_full(file, out);
+fn contents(rt: &HostRuntime, file: &mut File, path: &[u8], out: &mut [u8]) -> Bytes {
+    let n = read_full(file, out);
     let room = out.len();
     if room == 0 {
         return none();
     }
     if n == room {
-        return too_long(path, room - 1);
+        return too_long(rt, path, room - 1);
     }
-    if !is_at_end(file) {
-        return unread(path);
-    }
-    Bytes {
-        length: n,
-        is_good: true,
+    match at_end(file) {
+        Ok(()) => Bytes {
+            length: n,
+            is_good: true,
+        },
+        Err(why) => unread(rt, why, path),
     }
 }
 
-fn read_path(path: &[u8], out: &mut [u8]) -> Bytes {
-    let file = os::open_read(path);
-    if file < 0 {
-        return unread(path);
+// A name is text in UTF-8, or it names no file that can be opened.
+fn open(rt: &HostRuntime, path: &[u8]) -> Result<File, Error> {
+    match str::from_utf8(path) {
+        Ok(text) => File::open(rt, text),
+        Err(_) => Err(Error::from(ErrorKind::InvalidInput)),
     }
-    let c = contents(file, path, out);
-    libc::close(file);
-    c
+}
+
+fn read_path(rt: &HostRuntime, path: &[u8], out: &mut [u8]) -> Bytes {
+    match open(rt, path) {
+        Ok(mut file) => contents(rt, &mut file, path, out),
+        Err(e) => unread(rt, e.kind(), path),
+    }
 }
 
 // The file that an argument names.
-pub fn read(argument: usize, out: &mut [u8]) -> Bytes {
+pub fn read(rt: &HostRuntime, argument: usize, out: &mut [u8]) -> Bytes {
     let mut path = io::buffer();
-    let n = os::arg(argument, &mut path);
+    let n = given::argument(rt, argument, &mut path);
     if n == 0 {
-        notes::say(b"the name of a file is empty, or too long");
+        notes::say(rt, b"the name of a file is empty, or too long");
         return none();
     }
-    read_path(words::front(&path, n), out)
+    read_path(rt, words::front(&path, n), out)
 }
 
 // What is said of the file that an argument names.
-pub fn complain(what: &[u8], argument: usize) {
+pub fn complain(rt: &HostRuntime, what: &[u8], argument: usize) {
     let mut path = io::buffer();
-    let n = os::arg(argument, &mut path);
-    notes::complain(what, words::front(&path, n));
+    let n = given::argument(rt, argument, &mut path);
+    notes::complain(rt, what, words::front(&path, n));
 }
 
 // A file of lines. One without lines is mentioned.
-pub fn read_lines(argument: usize, out: &mut [u8]) -> Bytes {
-    let c = read(argument, out);
+pub fn read_lines(rt: &HostRuntime, argument: usize, out: &mut [u8]) -> Bytes {
+    let c = read(rt, argument, out);
     if c.is_good & (c.length == 0) {
-        complain(b"the file is empty", argument);
+        complain(rt, b"the file is empty", argument);
     }
     c
 }
 
 // Whether lines can be written; where not, that is said.
-pub fn is_output_open() -> bool {
-    let none = [0u8; 1];
-    if libc::write(STDOUT_FILENO, &none[0..0]) < 0 {
-        notes::say(b"standard output cannot be written");
+pub fn is_output_open(rt: &HostRuntime) -> bool {
+    if rt.write_some(b"").is_err() {
+        notes::say(rt, b"standard output cannot be written");
         return false;
     }
     true

@@ -24,34 +24,35 @@ fn is_within(at: u16, n: usize, ram: usize) -> bool {
     n <= ram - a
 }
 
-fn placed(at: u16, bytes: &[u8], argument: usize, ram: &mut [u8]) -> bool {
+fn placed(rt: &HostRuntime, at: u16, bytes: &[u8], argument: usize, ram: &mut [u8]) -> bool {
     if !is_within(at, bytes.len(), ram.len()) {
-        files::complain(b"not all of its bytes would be in RAM", argument);
+        files::complain(rt, b"not all of its bytes would be in RAM", argument);
         return false;
     }
     rows::put_all(ram, at as usize, bytes);
     true
 }
 
-fn checked(image: &[u8], argument: usize, ram: &mut [u8]) -> bool {
+fn checked(rt: &HostRuntime, image: &[u8], argument: usize, ram: &mut [u8]) -> bool {
     match header::read_header(image) {
         Header::Bad => {
             files::complain(
+                rt,
                 b"no header of four hexadecimal digits and a newline",
                 argument,
             );
             false
         }
-        Header::At(at) => placed(at, words::rest(image, FIRST), argument, ram),
+        Header::At(at) => placed(rt, at, words::rest(image, FIRST), argument, ram),
     }
 }
 
 // The image that an argument names. Whether all went well.
-pub fn load(argument: usize, ram: &mut [u8]) -> bool {
+pub fn load(rt: &HostRuntime, argument: usize, ram: &mut [u8]) -> bool {
     let mut out = room();
-    let c = files::read(argument, &mut out);
+    let c = files::read(rt, argument, &mut out);
     if !c.is_good {
         return false;
     }
-    checked(words::front(&out, c.length), argument, ram)
+    checked(rt, words::front(&out, c.length), argument, ram)
 }

@@ -6,6 +6,29 @@ use lexis::numbers;
 use lexis::numbers::Read;
 use names::register::{FoundReg, Reg};
 use night::notes;
+use std::env::{Env, FillError};
+
+// An argument's bytes, put at the start of `out`; how many they are. There are none where they do not fit, or there is no such argument.
+pub fn argument(rt: &impl Env, i: usize, out: &mut [u8]) -> usize
+    ensures { result ≤ length out.new }
+{
+    match rt.arg(i, out) {
+        Ok(n) => n,
+        Err(_) => 0,
+    }
+}
+
+// How many arguments there are, with the program's name.
+pub fn argument_count(rt: &impl Env) -> usize {
+    let mut room = [0u8; 1];
+    for i in 0..usize::MAX {
+        match rt.arg(i, &mut room) {
+            Ok(_) | Err(FillError::TooLong) => {}
+            Err(FillError::NotPresent) => return i,
+        }
+    }
+    usize::MAX
+}
 
 // Stands for a word that is no number.
 pub const NOT: u32 = 65536;
@@ -43,7 +66,7 @@ fn equals(word: &[u8]) -> usize
 }
 
 // A register's number and its content.
-#[derive(Drop)]
+#[derive(Clone, Copy)]
 pub struct Pair {
     pub register: u32,
     pub content: u32,
@@ -76,13 +99,13 @@ fn strange(setup: &[u16]) -> u16 {
 }
 
 // What refuses all pens, before the first.
-pub fn refused(number: u8, setup: &[u16]) {
-    notes::begin();
-    notes::text(b"refused ");
-    notes::decimal(number as u64);
+pub fn refused(rt: &HostRuntime, number: u8, setup: &[u16]) {
+    notes::begin(rt);
+    notes::text(rt, b"refused ");
+    notes::decimal(rt, number as u64);
     if number == 6 {
-        notes::text(b": there is no register ");
-        notes::decimal(strange(setup) as u64);
+        notes::text(rt, b": there is no register ");
+        notes::decimal(rt, strange(setup) as u64);
     }
-    notes::end();
+    notes::end(rt);
 }

@@ -1,8 +1,10 @@
 // The listing program: an image on standard input, its listing on standard output. All that it prints is `image::listing`'s.
+#![tactic(auto)]
+
 ghost use Rattle.std.specs.Prelude.{◌≡◌, length};
 
 use image::Output;
-use libc::{STDERR_FILENO, STDIN_FILENO, STDOUT_FILENO};
+use report::input::read_full;
 
 // Room for a header, 60,000 bytes, and one more that says that the image is too long.
 fn room_in() -> [u8; 60006]
@@ -19,20 +21,22 @@ fn room_out() -> [u8; 840000]
 }
 
 // What cannot be written is said on standard error.
-fn print(out: &[u8], n: usize) {
+fn print(rt: &HostRuntime, out: &[u8], n: usize) {
     if n <= out.len() {
-        if !io::write_all(STDOUT_FILENO, &out[0..n]) {
-            io::write_all(STDERR_FILENO, b"listing: the output could not be written\n");
+        if rt.write_all(&out[0..n]).is_err() {
+            let _ = rt
+                .stderr()
+                .write_all(b"listing: the output could not be written\n");
         }
     }
 }
 
 // `NoRoom` does not come: the output has room for the longest listing.
-fn main() {
+fn main(rt: HostRuntime) {
     let mut input = room_in();
-    let n = io::read_full(STDIN_FILENO, &mut input);
+    let n = read_full(&mut rt.stdin(), &mut input);
     let mut out = room_out();
     if let Output::Written(k) = image::listing(&input[..n], &mut out) {
-        print(&out, k);
+        print(&rt, &out, k);
     }
 }

@@ -2,7 +2,7 @@
 use console::rows;
 
 // A pen that was accepted, but for its name.
-#[derive(Drop)]
+#[derive(Clone, Copy)]
 pub struct Told {
     pub r0: u16,
     pub cause: Cause,
@@ -11,7 +11,7 @@ pub struct Told {
 }
 
 // Why a run stopped.
-#[derive(Drop)]
+#[derive(Clone, Copy)]
 pub enum Cause {
     Stop,
     Halted,

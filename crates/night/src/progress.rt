@@ -2,7 +2,9 @@
 use crate::totals::Totals;
 use crate::{lines, notes, totals};
 use console::rows;
-use libc::{STDERR_FILENO, STDOUT_FILENO};
+use std::io::IsTerminal;
+use std::rt::Clock;
+use std::time::CpuClock;
 
 // The clock is looked at after so many pens, and progress is shown after so many microseconds at the earliest.
 const PENS: u64 = 16;
@@ -12,16 +14,20 @@ const PAUSE: u64 = 100000;
 // The seconds after which pens a second are told: the clock has whole seconds only.
 const RATED: u64 = 10;
 
-fn whole(n: i64) -> u64 {
-    if n < 0 {
-        return 0;
+// The clock on the wall; 0 where it cannot be read.
+fn seconds(rt: &HostRuntime) -> u64 {
+    match rt.since_1970() {
+        Ok(now) => now.as_secs(),
+        Err(_) => 0,
     }
-    n as u64
 }
 
-fn seconds() -> u64 {
-    let mut now: i64 = 0;
-    whole(libc::time(&mut now))
+// The processor's time in microseconds; 0 where it cannot be read.
+fn worked(rt: &HostRuntime) -> u64 {
+    match rt.process_cpu_time() {
+        Ok(time) => u64::try_from(time.as_micros()).unwrap_or(0),
+        Err(_) => 0,
+    }
 }
 
 // From one time to another.
@@ -51,9 +57,9 @@ fn count(list: &[u8]) -> u64 {
 }
 
 // Before the first pen of a list. Where its lines go to a terminal, they are progress enough.
-pub fn begin(list: &[u8]) -> Totals {
-    let is_watched = (libc::isatty(STDERR_FILENO) == 1) & (libc::isatty(STDOUT_FILENO) != 1);
-    totals::none(count(list), is_watched, seconds())
+pub fn begin(rt: &HostRuntime, list: &[u8]) -> Totals {
+    let is_watched = rt.stderr().is_terminal() & !rt.stdout().is_terminal();
+    totals::none(count(list), is_watched, seconds(rt))
 }
 
 fn put_rate(row: &mut [u8], at: usize, done: u64, time: u64) -> usize {
@@ -66,7 +72,7 @@ fn put_rate(row: &mut [u8], at: usize, done: u64, time: u64) -> usize {
 }
 
 // The line is written over with blanks behind it.
-fn show(t: Totals) {
+fn show(rt: &HostRuntime, t: Totals) {
     let mut room = [b' '; 64];
     let row: &mut [u8] = &mut room;
     let mut p = rows::put_all(row, 0, b"\rpens: ");
@@ -76,46 +82,46 @@ fn show(t: Totals) {
     p = rows::put_all(row, p, b" done, ");
     p = lines::put_number(row, p, t.refused);
     p = rows::put_all(row, p, b" refused");
-    put_rate(row, p, t.done, between(t.began, seconds()));
-    notes::text(row);
+    put_rate(row, p, t.done, between(t.began, seconds(rt)));
+    notes::text(rt, row);
 }
 
 // Progress, where it is due. The processor's time is never ahead of a clock on the wall, so it is shown ten times a second at most.
-pub fn shown(t: Totals) -> Totals {
+pub fn shown(rt: &HostRuntime, t: Totals) -> Totals {
     if !t.is_watched {
         return t;
     }
     if t.done % PENS != 0 {
         return t;
     }
-    let now = whole(libc::clock());
+    let now = worked(rt);
     if between(t.last, now) < PAUSE {
         return t;
     }
-    show(t);
+    show(rt, t);
     let mut u = t;
     u.last = now;
     u
 }
 
 // The line of progress is taken away.
-pub fn clear(t: Totals) {
+pub fn clear(rt: &HostRuntime, t: Totals) {
     if t.is_watched {
         let mut room = [b' '; 65];
         room[0] = b'\r';
         room[64] = b'\r';
-        notes::text(&room);
+        notes::text(rt, &room);
     }
 }
 
 // A pen's line, by one write, so that a night that is cut short leaves whole lines. After one that fails none is written.
-pub fn written(t: Totals, line: &[u8]) -> Totals {
+pub fn written(rt: &HostRuntime, t: Totals, line: &[u8]) -> Totals {
     if t.lost == 0 {
-        if io::write_all(STDOUT_FILENO, line) {
+        if rt.write_all(line).is_ok() {
             return t;
         }
-        clear(t);
-        notes::say(b"the output could not be written; no more lines are");
+        clear(rt, t);
+        notes::say(rt, b"the output could not be written; no more lines are");
     }
     let mut u = t;
     u.lost = totals::one_more(t.lost);

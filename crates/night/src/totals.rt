@@ -6,7 +6,7 @@ use console::{rows, words};
 // The most refused pens that are told one by one.
 const LISTED: u64 = 1000;
 
-#[derive(Drop)]
+#[derive(Clone, Copy)]
 pub struct Totals {
     // The lines of the list, and how many of them are done.
     pub all: u64,
@@ -116,40 +116,40 @@ pub fn with_refused(t: Totals, pen: &[u8], is_number: bool, number: u8, room: &m
     u
 }
 
-fn tell(n: u64, what: &[u8]) {
-    notes::decimal(n);
-    notes::text(what);
+fn tell(rt: &HostRuntime, n: u64, what: &[u8]) {
+    notes::decimal(rt, n);
+    notes::text(rt, what);
 }
 
-fn tell_refused(t: Totals, room: &[u8]) {
-    notes::begin();
-    notes::text(b"refused: ");
-    notes::text(words::front(room, t.end));
+fn tell_refused(rt: &HostRuntime, t: Totals, room: &[u8]) {
+    notes::begin(rt);
+    notes::text(rt, b"refused: ");
+    notes::text(rt, words::front(room, t.end));
     if t.listed < t.refused {
-        notes::text(b", and ");
-        tell(t.refused - t.listed, b" more");
+        notes::text(rt, b", and ");
+        tell(rt, t.refused - t.listed, b" more");
     }
-    notes::end();
+    notes::end(rt);
 }
 
 // What a night came to, at its end.
-pub fn tell_all(t: Totals, room: &[u8]) {
-    notes::begin();
-    tell(t.done, b" done: ");
-    tell(t.stop, b" stop, ");
-    tell(t.halted, b" halted, ");
-    tell(t.budget, b" budget, ");
-    tell(t.refused, b" refused (");
-    tell(t.by83, b" by 83, ");
-    tell(t.by80, b" by 80, ");
-    tell(t.by81, b" by 81, ");
-    tell(t.by82, b" by 82)\n");
+pub fn tell_all(rt: &HostRuntime, t: Totals, room: &[u8]) {
+    notes::begin(rt);
+    tell(rt, t.done, b" done: ");
+    tell(rt, t.stop, b" stop, ");
+    tell(rt, t.halted, b" halted, ");
+    tell(rt, t.budget, b" budget, ");
+    tell(rt, t.refused, b" refused (");
+    tell(rt, t.by83, b" by 83, ");
+    tell(rt, t.by80, b" by 80, ");
+    tell(rt, t.by81, b" by 81, ");
+    tell(rt, t.by82, b" by 82)\n");
     if t.refused != 0 {
-        tell_refused(t, room);
+        tell_refused(rt, t, room);
     }
     if t.lost != 0 {
-        notes::begin();
-        notes::text(b"lines that could not be written: ");
-        tell(t.lost, b"\n");
+        notes::begin(rt);
+        notes::text(rt, b"lines that could not be written: ");
+        tell(rt, t.lost, b"\n");
     }
 }

@@ -1,4 +1,6 @@
 // The overnight pen bench: a list of pens run through the firmware, one after the other. It writes a line for each pen.
+#![tactic(auto)]
+
 ghost use Rattle.std.specs.Prelude.{◌≡◌, length};
 ghost use Rattle.calls.specs.Calls.{world_of};
 ghost use Rattle.manifests.specs.Manifests.{lines as lines_of};
@@ -67,7 +69,7 @@ fn refused_room() -> [u8; 32768]
 }
 
 // The machine after all pens, and what they came to.
-#[derive(Drop)]
+#[derive(Clone, Copy)]
 struct Listed {
     machine: Machine,
     totals: Totals,
@@ -88,7 +90,14 @@ fn is_number(line: &[u8]) -> bool {
     }
 }
 
-fn tell_accepted(t: Totals, line: &[u8], name: &[u8], r: Report, row: &mut [u8]) -> Totals {
+fn tell_accepted(
+    rt: &HostRuntime,
+    t: Totals,
+    line: &[u8],
+    name: &[u8],
+    r: Report,
+    row: &mut [u8],
+) -> Totals {
     let ending = r.ending;
     let told = Told {
         r0: r.r0,
@@ -98,10 +107,11 @@ fn tell_accepted(t: Totals, line: &[u8], name: &[u8], r: Report, row: &mut [u8])
     };
     let n = lines::accepted(row, line, told, name);
     let u = totals::with_accepted(t, cause(ending));
-    progress::written(u, words::front(row, n))
+    progress::written(rt, u, words::front(row, n))
 }
 
 fn tell_refused(
+    rt: &HostRuntime,
     t: Totals,
     pen: &[u8],
     is_pen: bool,
@@ -111,11 +121,12 @@ fn tell_refused(
 ) -> Totals {
     let n = lines::refused(row, pen, number);
     let u = totals::with_refused(t, pen, is_pen, number, refused);
-    progress::written(u, words::front(row, n))
+    progress::written(rt, u, words::front(row, n))
 }
 
 // A pen's line, written and counted.
 fn tell<'a>(
+    rt: &HostRuntime,
     t: Totals,
     line: &[u8],
     today: &'a [u8],
@@ -127,16 +138,17 @@ fn tell<'a>(
     if r.number == 0 {
         let held = r.held;
         let name = manifests::lookup(today, last_good, held);
-        return progress::shown(tell_accepted(t, line, name, r, row));
+        return progress::shown(rt, tell_accepted(rt, t, line, name, r, row));
     }
     if is_number(line) {
-        return progress::shown(tell_refused(t, line, true, r.number, row, refused));
+        return progress::shown(rt, tell_refused(rt, t, line, true, r.number, row, refused));
     }
-    progress::shown(tell_refused(t, b"?", false, r.number, row, refused))
+    progress::shown(rt, tell_refused(rt, t, b"?", false, r.number, row, refused))
 }
 
 // The pens of a list, one after the other.
 fn list<'a>(
+    rt: &HostRuntime,
     m: Machine,
     ram: &mut [u8],
     journal: &mut [u16],
@@ -171,7 +183,7 @@ fn list<'a>(
             last_heads,
             setup,
         );
-        totals = tell(totals, line, today, last_good, r, row, refused);
+        totals = tell(rt, totals, line, today, last_good, r, row, refused);
         let after = r.machine;
         machine = after;
         at = end + 1;
@@ -181,6 +193,7 @@ fn list<'a>(
 
 // The list, where nothing refuses all of it, and what it came to.
 fn run<'a>(
+    rt: &HostRuntime,
     ram: &mut [u8],
     journal: &mut [u16],
     lines: &[u8],
@@ -193,7 +206,7 @@ fn run<'a>(
     let m = state::start(Stretch { first, last });
     let number = pens::refusal(m, ram, journal, setup);
     if number != 0 {
-        given::refused(number, setup);
+        given::refused(rt, number, setup);
         return;
     }
     let mut today_heads = heads_room();
@@ -203,6 +216,7 @@ fn run<'a>(
     let mut row = row_room();
     let mut refused = refused_room();
     let l = list(
+        rt,
         m,
         ram,
         journal,
@@ -212,25 +226,33 @@ fn run<'a>(
         last_good,
         &last_heads,
         setup,
-        progress::begin(lines),
+        progress::begin(rt, lines),
         &mut row,
         &mut refused,
     );
     let t = l.totals;
-    progress::clear(t);
-    totals::tell_all(t, &refused);
+    progress::clear(rt, t);
+    totals::tell_all(rt, t, &refused);
 }
 
 // The lists are read, each whole, before anything runs.
-fn read(s: Settings, is_loaded: bool, setup: &[u16], ram: &mut [u8], journal: &mut [u16]) {
+fn read(
+    rt: &HostRuntime,
+    s: Settings,
+    is_loaded: bool,
+    setup: &[u16],
+    ram: &mut [u8],
+    journal: &mut [u16],
+) {
     let mut lines = list_room();
-    let a = files::read_lines(s.pens, &mut lines);
+    let a = files::read_lines(rt, s.pens, &mut lines);
     let mut today = list_room();
-    let b = files::read_lines(s.today, &mut today);
+    let b = files::read_lines(rt, s.today, &mut today);
     let mut last_good = list_room();
-    let c = files::read_lines(s.last_good, &mut last_good);
+    let c = files::read_lines(rt, s.last_good, &mut last_good);
     if is_loaded & a.is_good & b.is_good & c.is_good {
         run(
+            rt,
             ram,
             journal,
             words::front(&lines, a.length),
@@ -243,15 +265,15 @@ fn read(s: Settings, is_loaded: bool, setup: &[u16], ram: &mut [u8], journal: &m
     }
 }
 
-fn begin(s: Settings, setup: &[u16], ram: &mut [u8], journal: &mut [u16]) {
-    let is_loaded = firmware::load(s.firmware, ram);
-    read(s, is_loaded, setup, ram, journal);
+fn begin(rt: &HostRuntime, s: Settings, setup: &[u16], ram: &mut [u8], journal: &mut [u16]) {
+    let is_loaded = firmware::load(rt, s.firmware, ram);
+    read(rt, s, is_loaded, setup, ram, journal);
 }
 
-fn main() {
-    hold_standard();
+fn main(rt: HostRuntime) {
+    hold_standard(&rt);
     let mut setup = setup_room();
-    let s = arguments::read(&mut setup);
+    let s = arguments::read(&rt, &mut setup);
     let given = s.setup;
     let bytes = s.ram;
     let words = s.words;
@@ -267,12 +289,13 @@ fn main() {
     if 32768 < words {
         return;
     }
-    if !files::is_output_open() {
+    if !files::is_output_open(&rt) {
         return;
     }
     let mut ram = ram_room();
     let mut journal = journal_room();
     begin(
+        &rt,
         s,
         &setup[0..given],
         &mut ram[0..bytes],

@@ -1,4 +1,6 @@
 // Steps every instruction word from the independent model's states; the digests that it prints are compared with the model's.
+#![tactic(auto)]
+
 mod digest;
 mod states;
 
@@ -7,8 +9,8 @@ ghost use Rattle.std.specs.Prelude.{◌≡◌, length};
 use bus::state::Cpu;
 use cpu::step;
 use isa::opcode;
-use libc::STDIN_FILENO;
 use names::register::PC;
+use report::input;
 
 // The `ensures` gives only the length, so that no proof writes the zeros out.
 fn room() -> [u8; 65536]
@@ -47,14 +49,14 @@ fn one_state(table: &[u8; 256], input: &[u8], at: usize, buffer: &mut [u8]) -> u
 }
 
 // A line for each state.
-fn run(table: &[u8; 256], input: &[u8], buffer: &mut [u8]) {
+fn run(rt: &impl Print, table: &[u8; 256], input: &[u8], buffer: &mut [u8]) {
     let mut at = 0;
     while at < input.len() {
         let h = one_state(table, input, at, buffer);
-        report::decimal((at / 56) as u64);
-        report::space();
-        report::hex(h, 8);
-        report::end();
+        report::decimal(rt, (at / 56) as u64);
+        report::space(rt);
+        report::hex(rt, h, 8);
+        report::end(rt);
         if input.len() - at < 56 {
             return;
         }
@@ -62,10 +64,10 @@ fn run(table: &[u8; 256], input: &[u8], buffer: &mut [u8]) {
     }
 }
 
-fn main() {
+fn main(rt: HostRuntime) {
     let mut states = room();
     let mut buffer = room();
     let table = opcode::table();
-    let n = io::read_full(STDIN_FILENO, &mut states);
-    run(&table, &states[..n], &mut buffer);
+    let n = input::read_full(&mut rt.stdin(), &mut states);
+    run(&rt, &table, &states[..n], &mut buffer);
 }

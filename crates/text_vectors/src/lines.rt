@@ -4,7 +4,7 @@ use text::list::Listed;
 use text::{assemble, list};
 
 // A refusal's number, 0 where accepted, and the value.
-#[derive(Drop)]
+#[derive(Clone, Copy)]
 struct Numbered {
     number: u16,
     value: u16,
@@ -95,48 +95,48 @@ fn opcode_digest(code: u8) -> u64 {
     digest
 }
 
-fn opcode_rows() {
+fn opcode_rows(rt: &impl Print) {
     for code in 0..=255u8 {
-        report::hex(code as u64, 2);
-        report::space();
-        report::hex(opcode_digest(code), 8);
-        report::end();
+        report::hex(rt, code as u64, 2);
+        report::space(rt);
+        report::hex(rt, opcode_digest(code), 8);
+        report::end(rt);
     }
 }
 
-fn print_numbered(answer: Numbered, digest: u64) {
-    report::decimal(answer.number as u64);
-    report::space();
-    report::decimal(answer.value as u64);
-    report::space();
-    report::hex(digest, 8);
-    report::end();
+fn print_numbered(rt: &impl Print, answer: Numbered, digest: u64) {
+    report::decimal(rt, answer.number as u64);
+    report::space(rt);
+    report::decimal(rt, answer.value as u64);
+    report::space(rt);
+    report::hex(rt, digest, 8);
+    report::end(rt);
 }
 
 // `ldnf0is r10, r11` into an output of n bytes.
-fn room_row(n: usize, out: &mut [u8]) {
-    report::text(b"room ");
-    report::decimal(n as u64);
-    report::space();
+fn room_row(rt: &impl Print, n: usize, out: &mut [u8]) {
+    report::text(rt, b"room ");
+    report::decimal(rt, n as u64);
+    report::space(rt);
     let answer = listed(list::list(0xaba0, out));
-    print_numbered(answer, absorb_bytes(1, out));
+    print_numbered(rt, answer, absorb_bytes(1, out));
 }
 
-fn room_rows() {
+fn room_rows(rt: &impl Print) {
     for n in 0..17usize {
         let mut out = [0xaau8; 16];
-        room_row(n, &mut out[0..n]);
+        room_row(rt, n, &mut out[0..n]);
     }
 }
 
-fn line_row(index: u64, line: &[u8]) {
+fn line_row(rt: &impl Print, index: u64, line: &[u8]) {
     let answer = assembled(assemble::assemble(line));
-    report::decimal(index);
-    report::space();
-    report::decimal(answer.number as u64);
-    report::space();
-    report::hex(answer.value as u64, 4);
-    report::end();
+    report::decimal(rt, index);
+    report::space(rt);
+    report::decimal(rt, answer.number as u64);
+    report::space(rt);
+    report::hex(rt, answer.value as u64, 4);
+    report::end(rt);
 }
 
 fn wide(b: u8) -> usize {
@@ -144,25 +144,25 @@ fn wide(b: u8) -> usize {
 }
 
 // Each line has its length in front.
-fn line_rows(input: &[u8]) {
+fn line_rows(rt: &impl Print, input: &[u8]) {
     let mut at = 0;
     let mut index: u64 = 0;
     while at < input.len() {
         let n = wide(input[at]);
         let from = at + 1;
         if input.len() - from < n {
-            report::text(b"cut short\n");
+            report::text(rt, b"cut short\n");
             return;
         }
         let to = from + n;
-        line_row(index % 1000000, &input[from..to]);
+        line_row(rt, index % 1000000, &input[from..to]);
         at = to;
         index = index % 1000000 + 1;
     }
 }
 
-pub fn run(input: &[u8]) {
-    opcode_rows();
-    room_rows();
-    line_rows(input);
+pub fn run(rt: &impl Print, input: &[u8]) {
+    opcode_rows(rt);
+    room_rows(rt);
+    line_rows(rt, input);
 }

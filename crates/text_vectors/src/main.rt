@@ -1,9 +1,11 @@
 // Lists every word and assembles the lines of the independent model; what it prints is compared with the model's answers.
+#![tactic(auto)]
+
 mod lines;
 
 ghost use Rattle.std.specs.Prelude.{◌≡◌, length};
 
-use libc::STDIN_FILENO;
+use report::input;
 
 // The `ensures` gives only the length, so that no proof writes the zeros out.
 fn room() -> [u8; 262144]
@@ -12,8 +14,8 @@ fn room() -> [u8; 262144]
     [0u8; 262144]
 }
 
-fn main() {
+fn main(rt: HostRuntime) {
     let mut buffer = room();
-    let n = io::read_full(STDIN_FILENO, &mut buffer);
-    lines::run(&buffer[..n]);
+    let n = input::read_full(&mut rt.stdin(), &mut buffer);
+    lines::run(&rt, &buffer[..n]);
 }

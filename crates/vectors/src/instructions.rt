@@ -82,23 +82,23 @@ fn label(op: Op) -> u64 {
     }
 }
 
-fn opcode_row(table: &[u8; 256], code: u8) {
-    report::hex(code as u64, 2);
-    report::space();
+fn opcode_row(rt: &impl Print, table: &[u8; 256], code: u8) {
+    report::hex(rt, code as u64, 2);
+    report::space(rt);
     let key = opcode::mnemonic(table, code);
     if key == 0 {
-        report::text(b"-");
+        report::text(rt, b"-");
     } else {
-        report::name(key);
+        report::name(rt, key);
     }
-    report::space();
-    report::name(label(opcode::decode(table, code)));
-    report::end();
+    report::space(rt);
+    report::name(rt, label(opcode::decode(table, code)));
+    report::end(rt);
 }
 
-fn opcode_rows(table: &[u8; 256]) {
+fn opcode_rows(rt: &impl Print, table: &[u8; 256]) {
     for code in 0..=255u8 {
-        opcode_row(table, code);
+        opcode_row(rt, table, code);
     }
 }
 
@@ -112,13 +112,13 @@ fn condition_digest(code: u8, words: &[u16]) -> u64 {
     digest
 }
 
-fn condition_rows(words: &[u16]) {
+fn condition_rows(rt: &impl Print, words: &[u16]) {
     for code in 0..16u8 {
-        report::text(b"cond ");
-        report::hex(code as u64, 1);
-        report::space();
-        report::hex(condition_digest(code, words), 8);
-        report::end();
+        report::text(rt, b"cond ");
+        report::hex(rt, code as u64, 1);
+        report::space(rt);
+        report::hex(rt, condition_digest(code, words), 8);
+        report::end(rt);
     }
 }
 
@@ -144,50 +144,50 @@ fn digest(op: Op, d: u16, words: &[u16]) -> u64 {
     digest
 }
 
-fn digest_row(table: &[u8; 256], code: u8, op: Op, d: u16, words: &[u16]) {
-    report::name(opcode::mnemonic(table, code));
-    report::space();
-    report::hex(d as u64, 4);
-    report::space();
-    report::hex(digest(op, d, words), 8);
-    report::end();
+fn digest_row(rt: &impl Print, table: &[u8; 256], code: u8, op: Op, d: u16, words: &[u16]) {
+    report::name(rt, opcode::mnemonic(table, code));
+    report::space(rt);
+    report::hex(rt, d as u64, 4);
+    report::space(rt);
+    report::hex(rt, digest(op, d, words), 8);
+    report::end(rt);
 }
 
-fn digest_rows(table: &[u8; 256], code: u8, words: &[u16]) {
+fn digest_rows(rt: &impl Print, table: &[u8; 256], code: u8, words: &[u16]) {
     let op = opcode::decode(table, code);
     let mut i = 0;
     while i < words.len() {
-        digest_row(table, code, op, words[i], words);
+        digest_row(rt, table, code, op, words[i], words);
         i += 1;
     }
 }
 
-fn edge_row(table: &[u8; 256], code: u8, d: u16, s: u16) {
+fn edge_row(rt: &impl Print, table: &[u8; 256], code: u8, d: u16, s: u16) {
     let a = answer(opcode::decode(table, code), d, s);
-    report::name(opcode::mnemonic(table, code));
-    report::space();
-    report::hex(d as u64, 4);
-    report::space();
-    report::hex(s as u64, 4);
-    report::space();
-    report::hex(a.value as u64, 4);
-    report::space();
-    report::hex(a.flags as u64, 4);
-    report::end();
+    report::name(rt, opcode::mnemonic(table, code));
+    report::space(rt);
+    report::hex(rt, d as u64, 4);
+    report::space(rt);
+    report::hex(rt, s as u64, 4);
+    report::space(rt);
+    report::hex(rt, a.value as u64, 4);
+    report::space(rt);
+    report::hex(rt, a.flags as u64, 4);
+    report::end(rt);
 }
 
-fn edges_of(table: &[u8; 256], code: u8, d: u16, edges: &[u16]) {
+fn edges_of(rt: &impl Print, table: &[u8; 256], code: u8, d: u16, edges: &[u16]) {
     let mut i = 0;
     while i < edges.len() {
-        edge_row(table, code, d, edges[i]);
+        edge_row(rt, table, code, d, edges[i]);
         i += 1;
     }
 }
 
-fn edge_rows(table: &[u8; 256], code: u8, edges: &[u16]) {
+fn edge_rows(rt: &impl Print, table: &[u8; 256], code: u8, edges: &[u16]) {
     let mut i = 0;
     while i < edges.len() {
-        edges_of(table, code, edges[i], edges);
+        edges_of(rt, table, code, edges[i], edges);
         i += 1;
     }
 }
@@ -197,47 +197,47 @@ const UNIT: [u8; 16] = [
     0x01, 0x02, 0x05, 0x06, 0x08, 0x09, 0x10, 0x11, 0x1d, 0x12, 0x13, 0x14, 0x18, 0x1a, 0x19, 0x1b,
 ];
 
-fn all_digests(table: &[u8; 256], words: &[u16]) {
+fn all_digests(rt: &impl Print, table: &[u8; 256], words: &[u16]) {
     for k in 0..16usize {
-        digest_rows(table, UNIT[k], words);
+        digest_rows(rt, table, UNIT[k], words);
     }
 }
 
-fn all_edges(table: &[u8; 256], edges: &[u16]) {
+fn all_edges(rt: &impl Print, table: &[u8; 256], edges: &[u16]) {
     for k in 0..16usize {
-        edge_rows(table, UNIT[k], edges);
+        edge_rows(rt, table, UNIT[k], edges);
     }
 }
 
-fn number_or_dash(known: bool, number: u8) {
+fn number_or_dash(rt: &impl Print, known: bool, number: u8) {
     if known {
-        report::decimal(number as u64);
+        report::decimal(rt, number as u64);
     } else {
-        report::text(b"-");
+        report::text(rt, b"-");
     }
 }
 
-fn register_of(name: &[u8]) {
+fn register_of(rt: &impl Print, name: &[u8]) {
     match Reg::from_name(name) {
-        FoundReg::Is(r) => number_or_dash(true, r.number),
-        FoundReg::Unknown => number_or_dash(false, 0),
+        FoundReg::Is(r) => number_or_dash(rt, true, r.number),
+        FoundReg::Unknown => number_or_dash(rt, false, 0),
     }
 }
 
-fn csr_of(name: &[u8]) {
+fn csr_of(rt: &impl Print, name: &[u8]) {
     match Csr::from_name(name) {
-        FoundCsr::Is(c) => number_or_dash(true, c.number),
-        FoundCsr::Unknown => number_or_dash(false, 0),
+        FoundCsr::Is(c) => number_or_dash(rt, true, c.number),
+        FoundCsr::Unknown => number_or_dash(rt, false, 0),
     }
 }
 
-fn name_row(index: u64, name: &[u8]) {
-    report::decimal(index);
-    report::space();
-    register_of(name);
-    report::space();
-    csr_of(name);
-    report::end();
+fn name_row(rt: &impl Print, index: u64, name: &[u8]) {
+    report::decimal(rt, index);
+    report::space(rt);
+    register_of(rt, name);
+    report::space(rt);
+    csr_of(rt, name);
+    report::end(rt);
 }
 
 fn line_end(input: &[u8], from: usize) -> usize
@@ -255,12 +255,12 @@ fn line_end(input: &[u8], from: usize) -> usize
     i
 }
 
-fn name_rows(input: &[u8]) {
+fn name_rows(rt: &impl Print, input: &[u8]) {
     let mut at = 0;
     let mut index: u64 = 0;
     while at < input.len() {
         let end = line_end(input, at);
-        name_row(index % 1000000, &input[at..end]);
+        name_row(rt, index % 1000000, &input[at..end]);
         if end == input.len() {
             return;
         }
@@ -269,24 +269,24 @@ fn name_rows(input: &[u8]) {
     }
 }
 
-pub fn run(input: &[u8]) {
+pub fn run(rt: &impl Print, input: &[u8]) {
     let g = grid::read(input);
     let words = g.words;
     let n = g.count as usize;
     let names = n * 5 + 1;
     if n < 9 {
-        report::text(b"too few words\n");
+        report::text(rt, b"too few words\n");
         return;
     }
     if input.len() < names {
-        report::text(b"no names\n");
+        report::text(rt, b"no names\n");
         return;
     }
     let table = opcode::table();
-    opcode_rows(&table);
-    condition_rows(&words[0..n]);
-    all_digests(&table, &words[0..n]);
-    all_edges(&table, &words[0..9]);
-    shifts::all();
-    name_rows(&input[names..]);
+    opcode_rows(rt, &table);
+    condition_rows(rt, &words[0..n]);
+    all_digests(rt, &table, &words[0..n]);
+    all_edges(rt, &table, &words[0..9]);
+    shifts::all(rt);
+    name_rows(rt, &input[names..]);
 }

@@ -10,23 +10,23 @@ fn shifted(op: AluOp, count: u16) -> u64 {
     digest
 }
 
-fn row(name: &[u8], op: AluOp, count: u16) {
-    report::text(name);
-    report::text(b" by ");
-    report::decimal(count as u64);
-    report::space();
-    report::hex(shifted(op, count), 8);
-    report::end();
+fn row(rt: &impl Print, name: &[u8], op: AluOp, count: u16) {
+    report::text(rt, name);
+    report::text(rt, b" by ");
+    report::decimal(rt, count as u64);
+    report::space(rt);
+    report::hex(rt, shifted(op, count), 8);
+    report::end(rt);
 }
 
-fn rows(name: &[u8], op: AluOp) {
+fn rows(rt: &impl Print, name: &[u8], op: AluOp) {
     for count in 0..16u16 {
-        row(name, op, count);
+        row(rt, name, op, count);
     }
 }
 
-pub fn all() {
-    rows(b"shl", AluOp::Shl);
-    rows(b"shr", AluOp::Shr);
-    rows(b"shra", AluOp::Shra);
+pub fn all(rt: &impl Print) {
+    rows(rt, b"shl", AluOp::Shl);
+    rows(rt, b"shr", AluOp::Shr);
+    rows(rt, b"shra", AluOp::Shra);
 }
