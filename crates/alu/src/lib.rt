@@ -1,4 +1,6 @@
 // The arithmetic unit: the value and the flags of every computational instruction.
+#![tactic(auto)]
+
 ghost use Rattle.std.specs.Prelude.{◌≡◌, ◌-◌, ◌%◌, ◌≤◌};
 ghost use Rattle.alu.specs.Unit.{flags_of, answer_as, add_of, sub_of, logic_of, last_out, shl_of, shr_of, shra_of, alu_of, compare_of};
 
