@@ -14,7 +14,7 @@ use Rattle.history.specs.Trace.{hands}
 use Rattle.history.proofs.Exact.{Keeping}
 use Rattle.history.proofs.Copying.{before-below}
 use Rattle.history.proofs.Pushing.{push-in, push-out}
-use Rattle.history.specs.Ring.{Ring, slot_after, slot_before, slot_words, pushed, popped, ring}
+use Rattle.history.specs.Ring.{Ring, slot_after, slot_before, slot_words, pushed, ring}
 
 -- ---- a pasted stretch, read by index
 module _ (d : List ℕ) (at : ℕ) (r : List ℕ) (fits : at + 32 ≤ length d) (size : length r ≡ 32) where

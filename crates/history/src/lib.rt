@@ -1,4 +1,6 @@
 // The journal: a ring of slots of 32 words in lent words. What a record says is not known here.
+#![tactic(auto)]
+
 pub mod undo;
 
 ghost use Rattle.std.specs.Prelude.{◌≡◌, ◌+◌, ◌-◌, ◌*◌, ◌≤◌, ◌<◌, min, length};
