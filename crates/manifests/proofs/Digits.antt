@@ -10,7 +10,7 @@ use borrow.Author.Tests.{leb-true, le-leb}
 use lib.Dec.{leb}
 use lib.ListN.{length, get_or, take, drop, drop_of_length-le}
 use lib.Seq.{drop-cons, take_all}
-use Rattle.manifests.specs.Manifests.{is_digit, all_digits, value_after, number_of, front}
+use Rattle.manifests.specs.Manifests.{is_digit, all_digits, value_after, number_of}
 use Rattle.manifests.specs.Code.{digits_of, read_digits}
 use Rattle.manifests.specs.declared.Number.TheVariants.{Is, Not}
 

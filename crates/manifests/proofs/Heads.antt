@@ -32,7 +32,7 @@ noted-length size at Not t = refl
 noted-all-length : (size at : ℕ) (ls : List (List ℕ)) (t : List ℕ) → length (noted_all size at ls t) ≡ length t
 unfolding noted_all
 noted-all-length size at [] t = refl
-noted-all-length size at (l ∷ ls) t = noted-all-length _ _ ls _ ∙ noted-length _ _ (key_of l) t
+noted-all-length size at (l ∷ ls) t = noted-all-length size (at + (length l + 1)) ls _ ∙ noted-length _ _ (key_of l) t
 
 pub table-length : (k : ℕ) (s : List ℕ) → length (table_of k s) ≡ k
 unfolding table_of

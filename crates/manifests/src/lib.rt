@@ -1,4 +1,6 @@
 // Pen numbers, and manifests in which a pen is looked up.
+#![tactic(auto)]
+
 mod fronts;
 mod indexing;
 mod scanning;
