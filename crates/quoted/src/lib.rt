@@ -1,4 +1,6 @@
 // What stands between quotes: characters of their own, and escape sequences.
+#![tactic(auto)]
+
 ghost use Rattle.std.specs.Prelude.{◌≡◌, ◌+◌, ◌≤◌, length};
 ghost use Rattle.quoted.specs.Quoted.{replaced as replacedBy, coded_as, character_as, turn_of, meant, chars_say, chars_leave};
 ghost use Rattle.quoted.specs.Code.{mode_after, chars_in, stored, whole, counted, written};
@@ -6,7 +8,7 @@ ghost use Rattle.quoted.specs.declared.Mode.TheVariants.{Plain};
 ghost use Rattle.quoted.specs.declared.Number.TheVariants.{These};
 
 // Where the reading stands: at a character, after a backslash, after `\x`, after `\x` and a digit; or it met a fault.
-#[derive(Drop)]
+#[derive(Clone, Copy)]
 pub enum Mode {
     Plain,
     Escape,
@@ -16,14 +18,14 @@ pub enum Mode {
 }
 
 // What one more byte gives: the next mode, or a character.
-#[derive(Drop)]
+#[derive(Clone, Copy)]
 pub enum Reading {
     On(Mode),
     Char(u8),
 }
 
 // How many characters there are; or there is a fault; or no room for them.
-#[derive(Drop)]
+#[derive(Clone, Copy)]
 pub enum Chars {
     Are(usize),
     Bad,
@@ -31,7 +33,7 @@ pub enum Chars {
 }
 
 // How many characters there are, whatever the room.
-#[derive(Drop)]
+#[derive(Clone, Copy)]
 enum Number {
     These(usize),
     Faulty,
