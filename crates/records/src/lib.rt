@@ -1,4 +1,6 @@
 // The journal record: 32 words that keep the state before an input, and the bytes that it wrote over.
+#![tactic(auto)]
+
 ghost use Rattle.std.specs.Prelude.{◌≡◌};
 ghost use Rattle.bus.specs.State.{cpu, board};
 ghost use Rattle.bus.specs.declared.state.Stretch.{Stretch};
