@@ -1,4 +1,6 @@
 // When an interrupt is due, its entry, and the end of an instruction, illegal or legal.
+#![tactic(auto)]
+
 ghost use Rattle.std.specs.Prelude.{◌≡◌};
 ghost use Rattle.bus.specs.State.{cpu, with_halted};
 ghost use Rattle.exceptions.specs.Exceptions.{due as isDue, entered, illegal, settled_csrs, settled_halt};

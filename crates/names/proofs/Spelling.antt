@@ -13,9 +13,7 @@ use Rattle.names.specs.Names.{lower, place_in, register_names, fixed_names, fixe
 use Rattle.names.specs.declared.register.Reg.{Reg}
 use Rattle.names.specs.declared.register.Csr.{Csr}
 use Rattle.names.specs.declared.register.FoundReg.{FoundReg}
-use Rattle.names.specs.declared.register.FoundReg.TheVariants as FoundReg
 use Rattle.names.specs.declared.register.FoundCsr.{FoundCsr}
-use Rattle.names.specs.declared.register.FoundCsr.TheVariants as FoundCsr
 use Rattle.names.proofs.Keyed.{left, right}
 
 -- a small letter or a digit

@@ -1,12 +1,10 @@
 -- Names of registers and CSRs, and what a name that a person wrote stands for.
-use Rattle.std.specs.Prelude.{ℕ, suc, ◌+◌, Bool, true, false, cond, ◌&&◌, List, [], ◌∷◌, map, eqb, leb, ltb, get_or}
+use Rattle.std.specs.Prelude.{ℕ, suc, Bool, true, false, cond, ◌&&◌, List, [], ◌∷◌, map, eqb, leb, ltb, get_or}
 use Prim.Native.String.{String}
 use Prim.Native.Char.{code}
 unfoldable pub use Rattle.letters.specs.Letters.{lower}
 use Rattle.names.specs.declared.register.FoundReg.{FoundReg}
-use Rattle.names.specs.declared.register.FoundReg.TheVariants as FoundReg
 use Rattle.names.specs.declared.register.FoundCsr.{FoundCsr}
-use Rattle.names.specs.declared.register.FoundCsr.TheVariants as FoundCsr
 
 -- the bytes of a text of ASCII characters
 abbrev pub bytes : String → List ℕ

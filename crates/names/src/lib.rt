@@ -1,3 +1,5 @@
 // Names as numbers, and the registers and CSRs that have names.
+#![tactic(auto)]
+
 pub mod keys;
 pub mod register;
