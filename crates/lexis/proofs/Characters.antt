@@ -1,5 +1,5 @@
 -- What a character constant is worth, from what was read of it.
-use Prim.Native.Nat.{ℕ, suc, ◌+◌, ◌*◌}
+use Prim.Native.Nat.{ℕ, ◌+◌, ◌*◌}
 use mathlib.Core.Path.{◌≡◌, refl, sym, ap, ◌∙◌}
 use mathlib.Core.Bool.{Bool, true, false, cond}
 use mathlib.Core.List.{List, [], ◌∷◌}
@@ -11,10 +11,8 @@ use lib.ListN.{length, get_or}
 use Rattle.quoted.specs.Quoted.{chars_say, chars_leave}
 use Rattle.lexis.specs.Numbers.{of_chars}
 use Rattle.lexis.specs.Code.{chars_value}
-use Rattle.lexis.specs.declared.numbers.Value.{Value}
 use Rattle.lexis.specs.declared.numbers.Read.TheVariants as Read
 use Rattle.quoted.specs.declared.Chars.{Chars}
-use Rattle.quoted.specs.declared.Chars.TheVariants as Chars
 
 abbrev weight : Chars → ℕ
 weight (Chars.Are n) = 2 + n

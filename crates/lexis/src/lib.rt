@@ -1,2 +1,4 @@
 // Numbers as a person writes them.
+#![tactic(auto)]
+
 pub mod numbers;

@@ -8,14 +8,14 @@ ghost use Rattle.quoted.specs.declared.Mode.TheVariants.{Plain};
 use quoted::Chars;
 
 // A number's 16 bits; whether it is stored as a word; whether it had a minus sign.
-#[derive(Drop)]
+#[derive(Clone, Copy)]
 pub struct Value {
     pub bits: u16,
     pub word: bool,
     pub negative: bool,
 }
 
-#[derive(Drop)]
+#[derive(Clone, Copy)]
 pub enum Read {
     Is(Value),
     Bad,
@@ -24,7 +24,7 @@ pub enum Read {
 
 // The digits read so far: their value, where 65,536 stands for all that is more; their number, where 9 stands for more; whether the last byte was a
 // digit; whether each byte was where it may stand.
-#[derive(Drop)]
+#[derive(Clone, Copy)]
 struct Figures {
     value: u32,
     count: u8,
