@@ -7,9 +7,9 @@ use native.Mathlib.Nat.{le_of_suc-le-suc, not-suc-le-zero}
 use native.Mathlib.Omega.{arith}
 use borrow.Author.Tests.{lt-ltb, le-ltb, ltb-true, ltb-false}
 use lib.Dec.{eqb, ltb}
-use lib.ListN.{length, set, take, replicate, length-set, length-replicate, length-map}
-use Rattle.entries.specs.Entries.{entry, met_at, meets, any_of, counted, marked, place_of}
-use Rattle.entries.specs.Code.{bare, points, no_points, added, added_all, points_of}
+use lib.ListN.{length, set, take, replicate, length-set, length-map}
+use Rattle.entries.specs.Entries.{met_at, meets, any_of, counted, marked, place_of}
+use Rattle.entries.specs.Code.{bare, points, added, added_all, points_of}
 use Rattle.entries.specs.declared.Entry.{Entry}
 use Rattle.entries.specs.declared.Points.{Points}
 

@@ -1,7 +1,7 @@
 -- A list of entries met one by one: the first that is met, and whether all kinds are known.
 use Prim.Native.Nat.{ℕ, zero, suc, ◌+◌, ◌<◌, ◌≤◌}
 use mathlib.Core.Path.{◌≡◌, refl, ap}
-use mathlib.Core.Bool.{Bool, true, false, ◌&&◌, ◌||◌}
+use mathlib.Core.Bool.{Bool, true, false, ◌||◌}
 use mathlib.Core.List.{List, [], ◌∷◌}
 use native.Mathlib.Nat.{le_of_suc-le-suc, not-suc-le-zero}
 use native.Mathlib.Numerals.{add-one}
@@ -9,7 +9,7 @@ use native.Mathlib.Omega.{arith}
 use lib.Dec.{eqb}
 use lib.ListN.{length, get_or, drop, drop_of_length-le}
 use lib.Seq.{drop-cons}
-use Rattle.entries.specs.Entries.{entry, any_of, place_of, all_known}
+use Rattle.entries.specs.Entries.{entry, place_of, all_known}
 use Rattle.entries.specs.Code.{bare}
 use Rattle.entries.specs.declared.Entry.{Entry}
 

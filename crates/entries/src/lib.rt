@@ -1,11 +1,13 @@
 // The list of breaks and watches: an entry, what a stop meets, the first entry met, and the hits marked in a lent list.
+#![tactic(auto)]
+
 ghost use Rattle.std.specs.Prelude.{◌≡◌, length};
 ghost use Rattle.entries.specs.Entries.{entry, meets as meetsIt, counted as counted_by, marked, place_of, all_known};
 ghost use Rattle.entries.specs.Code.{bare, no_points, added, points_of, raised_all};
 
 // As the C boundary has it: three words of 16 bits.
 #[repr(C)]
-#[derive(Drop)]
+#[derive(Clone, Copy)]
 pub struct Entry {
     pub address: u16,
     pub kind: u16,
@@ -13,7 +15,7 @@ pub struct Entry {
 }
 
 // What a stop meets: the entries of a kind at one of the bytes from an address on. None where no byte is counted.
-#[derive(Drop)]
+#[derive(Clone, Copy)]
 pub struct Met {
     pub kind: u16,
     pub count: u8,
@@ -21,7 +23,7 @@ pub struct Met {
 }
 
 // Addresses and kinds of a list, for code that holds no reference to a struct. A list that is too long has the count 65.
-#[derive(Drop)]
+#[derive(Clone, Copy)]
 pub struct Points {
     pub count: usize,
     pub addresses: [u16; 64],
