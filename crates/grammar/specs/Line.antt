@@ -1,5 +1,5 @@
 -- The line reader: what it makes of a line, stage by stage. `Grammar` has the sentence itself, and proofs/Reading that both agree.
-use Rattle.std.specs.Prelude.{ℕ, Bool, true, false, cond, ◌&&◌, ◌||◌, List, [], ◌∷◌, eqb}
+use Rattle.std.specs.Prelude.{ℕ, Bool, true, false, cond, ◌&&◌, List, [], ◌∷◌, eqb}
 unfoldable pub use Rattle.letters.specs.Letters.{blank, wordy}
 
 -- the bytes at the front that pass a test, and what stands after them

@@ -1,2 +1,4 @@
 // The grammar of an instruction's line.
+#![tactic(auto)]
+
 pub mod line;

@@ -4,7 +4,7 @@ ghost use Rattle.grammar.specs.Line.{blank, wordy, run, line_of};
 ghost use Rattle.grammar.specs.Code.{split_as, within};
 
 // The words of a line: from a to b, from c to d, from e to f.
-#[derive(Drop)]
+#[derive(Clone, Copy)]
 pub enum Split {
     Words {
         a: usize,
