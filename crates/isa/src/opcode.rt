@@ -6,7 +6,7 @@ ghost use Rattle.isa.specs.Code.{kind_op, kind_names, kind_name, flag_keys, flag
 use alu::{AluOp, CompareOp};
 use names::keys;
 
-#[derive(Drop)]
+#[derive(Clone, Copy)]
 pub enum MoveOp {
     Csrr,
     Csrw,
@@ -16,7 +16,7 @@ pub enum MoveOp {
     Reti,
 }
 
-#[derive(Drop)]
+#[derive(Clone, Copy)]
 pub enum LoadOp {
     Ld,
     Ldb,
@@ -25,7 +25,7 @@ pub enum LoadOp {
     LdisIf,
 }
 
-#[derive(Drop)]
+#[derive(Clone, Copy)]
 pub enum StoreOp {
     Sto,
     Stob,
@@ -33,7 +33,7 @@ pub enum StoreOp {
 }
 
 // An operation; an illegal one with its reason.
-#[derive(Drop)]
+#[derive(Clone, Copy)]
 pub enum Op {
     Illegal(u8),
     Alu(AluOp),
@@ -43,7 +43,7 @@ pub enum Op {
     Store(StoreOp),
 }
 
-#[derive(Drop)]
+#[derive(Clone, Copy)]
 pub enum FoundOpcode {
     Is(u8),
     Unknown,
