@@ -5,9 +5,7 @@ use mathlib.Core.List.{List}
 use Prim.Native.Nat.{ℕ}
 use Rattle.names.specs.Names.{reg_named, csr_named}
 use Rattle.names.specs.declared.register.FoundReg.{FoundReg}
-use Rattle.names.specs.declared.register.FoundReg.TheVariants as FoundReg
 use Rattle.names.specs.declared.register.FoundCsr.{FoundCsr}
-use Rattle.names.specs.declared.register.FoundCsr.TheVariants as FoundCsr
 use Rattle.names.proofs.Spelling.{reg-small, csr-small}
 use Rattle.text.specs.Assembling.{reg_number, csr_number, operand_of}
 use Rattle.text.specs.Code.{Small}

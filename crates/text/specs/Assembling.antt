@@ -3,11 +3,8 @@ use Rattle.std.specs.Prelude.{ℕ, ◌+◌, ◌*◌, ◌%◌, Bool, cond, List}
 use Rattle.names.specs.Names.{reg_named, csr_named}
 use Rattle.isa.specs.Opcode.{opcode_named, gives_reason2}
 use Rattle.names.specs.declared.register.FoundReg.{FoundReg}
-use Rattle.names.specs.declared.register.FoundReg.TheVariants as FoundReg
 use Rattle.names.specs.declared.register.FoundCsr.{FoundCsr}
-use Rattle.names.specs.declared.register.FoundCsr.TheVariants as FoundCsr
 use Rattle.isa.specs.declared.opcode.FoundOpcode.{FoundOpcode}
-use Rattle.isa.specs.declared.opcode.FoundOpcode.TheVariants as FoundOpcode
 use Rattle.text.specs.Answer.{Answer, accepted, refused}
 use Rattle.text.specs.Listing.{first_is_csr, second_is_csr}
 use Rattle.grammar.specs.Line.{Line, words, no_line, line_of}

@@ -12,7 +12,7 @@ use isa::opcode::FoundOpcode;
 use names::register::{Csr, FoundCsr, FoundReg, Reg};
 
 // The word; or refusal 12, 13 or 14.
-#[derive(Drop)]
+#[derive(Clone, Copy)]
 pub enum Assembled {
     Word(u16),
     BadLine,
@@ -20,7 +20,7 @@ pub enum Assembled {
     BadOperand,
 }
 
-#[derive(Drop)]
+#[derive(Clone, Copy)]
 pub enum Operand {
     Number(u8),
     NoOperand,

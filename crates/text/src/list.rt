@@ -11,7 +11,7 @@ use isa::opcode;
 use names::register::{Csr, Reg};
 
 // The text's length; or refusal 10 or 11.
-#[derive(Drop)]
+#[derive(Clone, Copy)]
 pub enum Listed {
     Text(usize),
     Reason2,

@@ -8,7 +8,7 @@ use crate::list::Listed;
 use crate::{assemble, list};
 
 // What a word's listing assembles to: that word, unless its opcode gives reason 2. No word gives any other answer.
-#[derive(Drop)]
+#[derive(Clone, Copy)]
 pub enum Again {
     Same(u16),
     Unlisted,
