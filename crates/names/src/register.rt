@@ -5,7 +5,7 @@ ghost use Rattle.names.specs.Code.{pack, fixed_keyed, number_near};
 
 use crate::keys;
 
-#[derive(Drop)]
+#[derive(Clone, Copy)]
 pub struct Reg {
     pub number: u8,
 }
@@ -17,7 +17,7 @@ pub const F: usize = Reg::F.number as usize;
 
 pub const PC: usize = Reg::PC.number as usize;
 
-#[derive(Drop)]
+#[derive(Clone, Copy)]
 pub enum FoundReg {
     Is(Reg),
     Unknown,
@@ -103,12 +103,12 @@ impl Reg {
     }
 }
 
-#[derive(Drop)]
+#[derive(Clone, Copy)]
 pub struct Csr {
     pub number: u8,
 }
 
-#[derive(Drop)]
+#[derive(Clone, Copy)]
 pub enum FoundCsr {
     Is(Csr),
     Unknown,

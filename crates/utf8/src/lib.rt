@@ -7,14 +7,14 @@ ghost use Rattle.utf8.specs.Latin.{judged_of};
 ghost use Rattle.utf8.specs.Code.{low_after, high_after};
 
 // A code point and how many bytes it takes, or no well-formed sequence.
-#[derive(Drop)]
+#[derive(Clone, Copy)]
 pub enum Letter {
     Is { point: u32, length: usize },
     Bad,
 }
 
 // A name of so many single bytes, or why it has none.
-#[derive(Drop)]
+#[derive(Clone, Copy)]
 pub enum Judged {
     Fine(usize),
     NotUtf8,
