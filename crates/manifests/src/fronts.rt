@@ -6,14 +6,14 @@ ghost use Rattle.manifests.specs.Code.{read_digits, front_of};
 use crate::Number;
 
 // The number that digits make, and how many they are.
-#[derive(Drop)]
+#[derive(Clone, Copy)]
 pub(crate) struct Digits {
     pub value: u32,
     pub count: usize,
 }
 
 // The number in front of a line's first tab, and how many bytes of the line are read for it.
-#[derive(Drop)]
+#[derive(Clone, Copy)]
 pub(crate) struct Front {
     pub number: Number,
     pub read: usize,

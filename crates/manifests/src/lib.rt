@@ -9,21 +9,21 @@ ghost use Rattle.std.specs.Prelude.{◌≡◌, ◌-◌, ◌≤◌, min, length, 
 ghost use Rattle.manifests.specs.Manifests.{number_of, name_of};
 ghost use Rattle.manifests.specs.Code.{line_end, heads_of, held_from};
 
-#[derive(Drop)]
+#[derive(Clone, Copy)]
 pub enum Number {
     Is(u32),
     Not,
 }
 
 // Where a name lies in a manifest.
-#[derive(Drop)]
+#[derive(Clone, Copy)]
 pub enum Place {
     At { from: usize, to: usize },
     Nowhere,
 }
 
 // Where a pen's name lies, and in which manifest.
-#[derive(Drop)]
+#[derive(Clone, Copy)]
 pub enum Held {
     Today { from: usize, to: usize },
     LastGood { from: usize, to: usize },
