@@ -4,8 +4,9 @@ ghost use Rattle.std.specs.Prelude.{◌≤◌, ◌<◌};
 use crate::{texts, values, version, words};
 use lexis::numbers;
 use lexis::numbers::Read;
+use std::env::{Env, FillError};
 
-#[derive(Drop)]
+#[derive(Clone, Copy)]
 pub struct Settings {
     pub ram: usize,
     pub words: usize,
@@ -18,8 +19,36 @@ pub struct Settings {
     pub is_good: bool,
 }
 
-fn usage() {
-    report::text(b"usage: desk [--ram N] [--slots N] [--protect FIRST LAST] [IMAGE]\n");
+// An argument, put at the start of the room: how long it is; 0 where it is missing, or longer than the room.
+pub fn argument(rt: &impl Env, i: usize, room: &mut [u8]) -> usize {
+    rt.arg(i, room).unwrap_or(0)
+}
+
+fn is_there(rt: &impl Env, i: usize) -> bool {
+    let mut room = [0u8; 1];
+    match rt.arg(i, &mut room) {
+        Err(FillError::NotPresent) => false,
+        Ok(_) | Err(FillError::TooLong) => true,
+    }
+}
+
+// How many arguments there are, the program's own name among them.
+pub fn count(rt: &impl Env) -> usize {
+    let mut n: usize = 0;
+    while n < usize::MAX {
+        if !is_there(rt, n) {
+            return n;
+        }
+        n += 1;
+    }
+    n
+}
+
+fn usage(rt: &impl Print) {
+    report::text(
+        rt,
+        b"usage: desk [--ram N] [--slots N] [--protect FIRST LAST] [IMAGE]\n",
+    );
 }
 
 // The desk is not to start.
@@ -29,24 +58,25 @@ fn ended(s: Settings) -> Settings {
     e
 }
 
-fn bad(s: Settings, what: &[u8], i: usize) -> Settings {
+fn bad(rt: &(impl Print + Env), s: Settings, what: &[u8], i: usize) -> Settings {
     let mut room = io::buffer();
-    let n = os::arg(i, &mut room);
-    report::text(b"desk: ");
-    values::complain(what, words::front(&room, n));
-    usage();
+    let n = argument(rt, i, &mut room);
+    report::text(rt, b"desk: ");
+    values::complain(rt, what, words::front(&room, n));
+    usage(rt);
     ended(s)
 }
 
-fn told_version(s: Settings) -> Settings {
-    version::show();
+fn told_version(rt: &impl Print, s: Settings) -> Settings {
+    version::show(rt);
     ended(s)
 }
 
-fn told_help(s: Settings) -> Settings {
-    version::show();
-    usage();
+fn told_help(rt: &impl Print, s: Settings) -> Settings {
+    version::show(rt);
+    usage(rt);
     report::text(
+        rt,
         b"    --ram N               bytes of RAM, 0 to 65504; 30000 unless given
     --slots N             records of the journal, 0 to 1024; 1024 unless given
     --protect FIRST LAST  the first and the last address, 0 to 65535, of RAM that no instruction changes; none unless given
@@ -59,9 +89,9 @@ Commands come from standard input, a line each; ? lists them.
 }
 
 // The number in an argument, or 65,536 where there is none in it.
-fn number_in(i: usize) -> u32 {
+fn number_in(rt: &impl Env, i: usize) -> u32 {
     let mut room = io::buffer();
-    let n = os::arg(i, &mut room);
+    let n = argument(rt, i, &mut room);
     let r = numbers::unsigned(words::front(&room, n));
     match r {
         Read::Is(v) => v.bits as u32,
@@ -69,42 +99,43 @@ fn number_in(i: usize) -> u32 {
     }
 }
 
-fn with_ram(s: Settings, i: usize) -> Settings {
-    let n = number_in(i);
+fn with_ram(rt: &(impl Print + Env), s: Settings, i: usize) -> Settings {
+    let n = number_in(rt, i);
     if 65504 < n {
-        return bad(s, b"--ram needs a number of bytes from 0 to 65504", i);
+        return bad(rt, s, b"--ram needs a number of bytes from 0 to 65504", i);
     }
     let mut e = s;
     e.ram = n as usize;
     e
 }
 
-fn with_slots(s: Settings, i: usize) -> Settings {
-    let n = number_in(i);
+fn with_slots(rt: &(impl Print + Env), s: Settings, i: usize) -> Settings {
+    let n = number_in(rt, i);
     if 1024 < n {
-        return bad(s, b"--slots needs a number from 0 to 1024", i);
+        return bad(rt, s, b"--slots needs a number from 0 to 1024", i);
     }
     let mut e = s;
     e.words = n as usize * 32;
     e
 }
 
-fn bad_stretch(s: Settings, i: usize) -> Settings {
+fn bad_stretch(rt: &(impl Print + Env), s: Settings, i: usize) -> Settings {
     bad(
+        rt,
         s,
         b"--protect needs a first and a last address from 0 to 65535",
         i,
     )
 }
 
-fn with_stretch(s: Settings, i: usize) -> Settings {
-    let first = number_in(i);
-    let last = number_in(next(i));
+fn with_stretch(rt: &(impl Print + Env), s: Settings, i: usize) -> Settings {
+    let first = number_in(rt, i);
+    let last = number_in(rt, next(i));
     if 65535 < first {
-        return bad_stretch(s, i);
+        return bad_stretch(rt, s, i);
     }
     if 65535 < last {
-        return bad_stretch(s, next(i));
+        return bad_stretch(rt, s, next(i));
     }
     let mut e = s;
     e.first = first as u16;
@@ -113,9 +144,9 @@ fn with_stretch(s: Settings, i: usize) -> Settings {
     e
 }
 
-fn with_image(s: Settings, i: usize) -> Settings {
+fn with_image(rt: &(impl Print + Env), s: Settings, i: usize) -> Settings {
     if s.image != 0 {
-        return bad(s, b"there is more than one image", i);
+        return bad(rt, s, b"there is more than one image", i);
     }
     let mut e = s;
     e.image = i;
@@ -135,22 +166,22 @@ fn option_in(word: &[u8]) -> u8 {
     n
 }
 
-fn option(i: usize) -> u8 {
+fn option(rt: &impl Env, i: usize) -> u8 {
     let mut room = io::buffer();
-    let n = os::arg(i, &mut room);
+    let n = argument(rt, i, &mut room);
     option_in(words::front(&room, n))
 }
 
 // One argument that is no number.
-fn with_argument(s: Settings, kind: u8, i: usize) -> Settings {
+fn with_argument(rt: &(impl Print + Env), s: Settings, kind: u8, i: usize) -> Settings {
     match kind {
-        0 => with_ram(s, next(i)),
-        1 => with_slots(s, next(i)),
-        2 => with_stretch(s, next(i)),
-        3 => told_version(s),
-        4 | 5 => told_help(s),
-        6 => bad(s, b"there is no such option", i),
-        _ => with_image(s, i),
+        0 => with_ram(rt, s, next(i)),
+        1 => with_slots(rt, s, next(i)),
+        2 => with_stretch(rt, s, next(i)),
+        3 => told_version(rt, s),
+        4 | 5 => told_help(rt, s),
+        6 => bad(rt, s, b"there is no such option", i),
+        _ => with_image(rt, s, i),
     }
 }
 
@@ -184,7 +215,7 @@ fn following(i: usize, n: usize, kind: u8) -> usize
     n
 }
 
-pub fn read() -> Settings {
+pub fn read(rt: &(impl Print + Env)) -> Settings {
     let mut s = Settings {
         ram: 30000,
         words: 32768,
@@ -194,11 +225,11 @@ pub fn read() -> Settings {
         image: 0,
         is_good: true,
     };
-    let n = os::arg_count();
+    let n = count(rt);
     let mut i: usize = 1;
     while i < n {
-        let kind = option(i);
-        s = with_argument(s, kind, i);
+        let kind = option(rt, i);
+        s = with_argument(rt, s, kind, i);
         if !s.is_good {
             return s;
         }
@@ -208,19 +239,19 @@ pub fn read() -> Settings {
 }
 
 // The protected addresses, told where they are given.
-pub fn tell_stretch(s: Settings) {
+pub fn tell_stretch(rt: &impl Print, s: Settings) {
     if !s.is_protecting {
         return;
     }
     if s.last < s.first {
-        report::text(b"nothing is protected: first ");
-        report::hex(s.first as u64, 4);
-        report::text(b" is above last ");
+        report::text(rt, b"nothing is protected: first ");
+        report::hex(rt, s.first as u64, 4);
+        report::text(rt, b" is above last ");
     } else {
-        report::text(b"protected ");
-        report::hex(s.first as u64, 4);
-        report::text(b" to ");
+        report::text(rt, b"protected ");
+        report::hex(rt, s.first as u64, 4);
+        report::text(rt, b" to ");
     }
-    report::hex(s.last as u64, 4);
-    report::end();
+    report::hex(rt, s.last as u64, 4);
+    report::end(rt);
 }

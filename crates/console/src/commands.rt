@@ -2,7 +2,7 @@
 use crate::{rows, texts, values, words};
 
 // A command by its row's letter.
-#[derive(Drop)]
+#[derive(Clone, Copy)]
 pub enum Found {
     Is(u8),
     Unknown,
@@ -10,7 +10,7 @@ pub enum Found {
 }
 
 // What is asked of the table: which command a word names, a line for each command, all that is told of each, or of the one that a word names.
-#[derive(Drop)]
+#[derive(Clone, Copy)]
 enum Ask {
     Name,
     Brief,
@@ -30,7 +30,7 @@ const DOES: u8 = 4;
 const MORE: u8 = 5;
 
 // Where a command stands in the table: the number of its row.
-#[derive(Drop)]
+#[derive(Clone, Copy)]
 enum Place {
     Is(u8),
     Unknown,
@@ -38,8 +38,9 @@ enum Place {
 }
 
 // A row is a letter for the desk's own use, the name, short names, what stands after the name, what it does, what else there is to know.
-fn consult(ask: Ask, word: &[u8]) -> Found {
+fn consult(rt: &impl Print, ask: Ask, word: &[u8]) -> Found {
     answered(
+        rt,
         b"a|assemble||ADDR LINE|pokes the two bytes of an instruction|The line is an instruction as list shows it: assemble 0x100 mv r1, r2|
 b|back|ba|[N]|takes back the last step or input, or N of them|Registers, status registers, devices and memory are as they were before it.|
 B|break|b|[-] [ADDR]|stops execute before the instruction at an address|Without an address it lists the breaks and their hits. - deletes the break at an address, or all. With the watches there are 64 at most.|
@@ -73,12 +74,12 @@ v|watch|w|[-] [ADDR]|stops execute after a store to an address|Without an addres
     )
 }
 
-fn answered(table: &[u8], ask: Ask, word: &[u8]) -> Found {
+fn answered(rt: &impl Print, table: &[u8], ask: Ask, word: &[u8]) -> Found {
     match ask {
         Ask::Name => lettered(table, sought(table, word)),
-        Ask::Brief => all(table, false),
-        Ask::All => all(table, true),
-        Ask::One => told(table, sought(table, word)),
+        Ask::Brief => all(rt, table, false),
+        Ask::All => all(rt, table, true),
+        Ask::One => told(rt, table, sought(table, word)),
     }
 }
 
@@ -163,7 +164,7 @@ fn lettered(table: &[u8], r: Place) -> Found {
 }
 
 // The first line of what is told: the name with what stands after it, and from the 26th place on what it does.
-fn tell_use(row: &[u8]) {
+fn tell_use(rt: &impl Print, row: &[u8]) {
     let mut room = [b' '; 160];
     let out: &mut [u8] = &mut room;
     let name = put_field(out, 0, row, NAME);
@@ -171,7 +172,7 @@ fn tell_use(row: &[u8]) {
     put_field(out, blank, row, USAGE);
     let does = put_field(out, 25, row, DOES);
     let end = rows::put(out, does, b'\n');
-    rows::write(out, end);
+    rows::write(rt, out, end);
 }
 
 fn put_field(out: &mut [u8], at: usize, row: &[u8], n: u8) -> usize {
@@ -179,82 +180,82 @@ fn put_field(out: &mut [u8], at: usize, row: &[u8], n: u8) -> usize {
 }
 
 // The second line: the short names, and what else there is to know.
-fn tell_more(row: &[u8]) {
-    report::text(b"    ");
-    tell_short(field(row, SHORT));
-    report::text(field(row, MORE));
-    report::end();
+fn tell_more(rt: &impl Print, row: &[u8]) {
+    report::text(rt, b"    ");
+    tell_short(rt, field(row, SHORT));
+    report::text(rt, field(row, MORE));
+    report::end(rt);
 }
 
-fn tell_short(names: &[u8]) {
+fn tell_short(rt: &impl Print, names: &[u8]) {
     if names.len() == 0 {
         return;
     }
-    report::text(b"Short: ");
-    report::text(names);
-    report::text(b". ");
+    report::text(rt, b"Short: ");
+    report::text(rt, names);
+    report::text(rt, b". ");
 }
 
-fn tell(row: &[u8], is_long: bool) {
-    tell_use(row);
+fn tell(rt: &impl Print, row: &[u8], is_long: bool) {
+    tell_use(rt, row);
     if is_long {
-        tell_more(row);
+        tell_more(rt, row);
     }
 }
 
-fn all(table: &[u8], is_long: bool) -> Found {
+fn all(rt: &impl Print, table: &[u8], is_long: bool) -> Found {
     let mut n: u8 = 0;
     while n < 255 {
         let r = row(table, n);
         if r.len() == 0 {
             return Found::Unknown;
         }
-        tell(r, is_long);
+        tell(rt, r, is_long);
         n += 1;
     }
     Found::Unknown
 }
 
 // The row that was found, told; the answer is what was found.
-fn told(table: &[u8], r: Place) -> Found {
+fn told(rt: &impl Print, table: &[u8], r: Place) -> Found {
     if let Place::Is(n) = r {
-        tell(row(table, n), true);
+        tell(rt, row(table, n), true);
     }
     lettered(table, r)
 }
 
 // The command that a word names.
-pub fn find(word: &[u8]) -> Found {
-    consult(Ask::Name, word)
+pub fn find(rt: &impl Print, word: &[u8]) -> Found {
+    consult(rt, Ask::Name, word)
 }
 
 // Why a word names no command.
-pub fn unfound(f: Found, word: &[u8]) {
+pub fn unfound(rt: &impl Print, f: Found, word: &[u8]) {
     match f {
         Found::Ambiguous => {
-            values::complain(b"more than one command begins so (? lists them)", word);
+            values::complain(rt, b"more than one command begins so (? lists them)", word);
         }
-        Found::Unknown => values::complain(b"no such command (? lists them)", word),
+        Found::Unknown => values::complain(rt, b"no such command (? lists them)", word),
         Found::Is(_) => {}
     }
 }
 
 // ?
-pub fn brief(line: &[u8], at: usize) {
-    if values::is_end(line, at) {
-        consult(Ask::Brief, line);
+pub fn brief(rt: &impl Print, line: &[u8], at: usize) {
+    if values::is_end(rt, line, at) {
+        consult(rt, Ask::Brief, line);
     }
 }
 
 // help [COMMAND]
-pub fn help(line: &[u8], at: usize) {
+pub fn help(rt: &impl Print, line: &[u8], at: usize) {
     let p = words::next(line, at);
     if p.from == p.to {
-        consult(Ask::All, line);
+        consult(rt, Ask::All, line);
         return;
     }
-    if values::is_end(line, p.to) {
+    if values::is_end(rt, line, p.to) {
         let word = words::cut(line, p);
-        unfound(consult(Ask::One, word), word);
+        unfound(rt, consult(rt, Ask::One, word), word);
     }
 }

@@ -1,58 +1,95 @@
 // What is wrong with a file, said by the reason that the system gives.
 use crate::values;
-use libc::{EACCES, EISDIR, ENOENT, STDERR_FILENO};
+use std::fs;
+use std::io::{Error, ErrorKind, Read, Result};
+use std::os::fd::{AsRawFd, IntoRawFd};
+use std::rt::Files;
 
-fn reason(number: i32, otherwise: &[u8], path: &[u8]) {
+// The system's numbers of the reasons that have words of their own. An error's kind would not do: EPERM is of one kind with EACCES.
+const ENOENT: i32 = 2;
+
+const EACCES: i32 = 13;
+
+const EISDIR: i32 = 21;
+
+const STDERR_FILENO: i32 = 2;
+
+fn reason(rt: &impl Print, error: &Error, otherwise: &[u8], path: &[u8]) {
+    let number = error.raw_os_error().unwrap_or(0);
     if number == ENOENT {
-        values::complain(b"there is no such file", path);
+        values::complain(rt, b"there is no such file", path);
         return;
     }
     if number == EACCES {
-        values::complain(b"this file may not be opened by you", path);
+        values::complain(rt, b"this file may not be opened by you", path);
         return;
     }
     if number == EISDIR {
-        values::complain(b"this is a folder, not a file", path);
+        values::complain(rt, b"this is a folder, not a file", path);
         return;
     }
-    values::complain(otherwise, path);
+    values::complain(rt, otherwise, path);
 }
 
-// A file that was not opened, just after that.
-pub fn unopened(path: &[u8]) {
-    reason(os::errno(), b"the file cannot be opened", path);
+// A file that was not opened, with the reason for that.
+pub fn unopened(rt: &impl Print, error: &Error, path: &[u8]) {
+    reason(rt, error, b"the file cannot be opened", path);
 }
 
-// A file opened for reading, or a negative number where that is not possible, which is said.
-pub fn open(path: &[u8]) -> i32 {
-    let file = os::open_read(path);
-    if file < 0 {
-        unopened(path);
-        return file;
+// A file's name as the system takes it from here, which is as text.
+pub fn name(path: &[u8]) -> Result<&str> {
+    match str::from_utf8(path) {
+        Ok(text) => Ok(text),
+        Err(_) => Err(Error::from(ErrorKind::InvalidInput)),
     }
+}
+
+fn opened<R: Files>(rt: &R, path: &[u8]) -> Result<R::File> {
+    fs::open(rt, name(path)?)
+}
+
+// A file opened for reading, or none where that is not possible, which is said.
+pub fn open<R: Files + Print>(rt: &R, path: &[u8]) -> Option<R::File> {
+    match opened(rt, path) {
+        Ok(file) => readable(rt, file, path),
+        Err(e) => {
+            unopened(rt, &e, path);
+            None
+        }
+    }
+}
+
+// The file, if no bytes can be read from it: a folder can be opened, and not read.
+fn readable<F: Read + Drop>(rt: &impl Print, file: F, path: &[u8]) -> Option<F> {
+    let mut file = file;
     let mut none = [0u8; 1];
-    if libc::read(file, &mut none[0..0]) < 0 {
-        reason(os::errno(), b"the file cannot be read", path);
-        libc::close(file);
-        return -1;
+    match file.read(&mut none[0..0]) {
+        Ok(_) => Some(file),
+        Err(e) => {
+            reason(rt, &e, b"the file cannot be read", path);
+            None
+        }
     }
-    file
 }
 
 // A file without bytes, which is closed.
-pub fn empty(file: i32, path: &[u8]) {
-    values::complain(b"the file is empty", path);
-    libc::close(file);
+pub fn empty<F: Drop>(rt: &impl Print, file: F, path: &[u8]) {
+    values::complain(rt, b"the file is empty", path);
+    drop(file);
 }
 
 // Where a standard descriptor is closed, a file would be opened in its place, and written over: so the empty device is.
-pub fn hold_standard() {
+pub fn hold_standard<R: Files>(rt: &R)
+where
+    R::File: AsRawFd + IntoRawFd,
+{
     let mut i: u8 = 0;
     while i < 3 {
-        let file = os::open_read(b"/dev/null");
-        if STDERR_FILENO < file {
-            libc::close(file);
-            return;
+        if let Ok(file) = fs::open(rt, "/dev/null") {
+            if STDERR_FILENO < file.as_raw_fd() {
+                return;
+            }
+            let _ = file.into_raw_fd();
         }
         i += 1;
     }

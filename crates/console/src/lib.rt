@@ -1,4 +1,6 @@
 // What the desk reads and writes, but for the machine: lines, words, values, the commands and what is told of them, rows, files.
+#![tactic(auto)]
+
 pub mod arguments;
 pub mod commands;
 pub mod files;

@@ -1,8 +1,9 @@
 // Lines from a file or a terminal.
 use crate::{rows, words};
+use std::io::Read;
 
 // How many bytes the line has.
-#[derive(Drop)]
+#[derive(Clone, Copy)]
 pub enum Line {
     Is(usize),
     TooLong,
@@ -11,12 +12,12 @@ pub enum Line {
 }
 
 // One byte, or 256 at the end.
-fn byte(file: i32) -> u16 {
+fn byte(file: &mut impl Read) -> u16 {
     let mut one = [0u8; 1];
-    if libc::read(file, &mut one) == 1 {
-        return wide(one[0]);
+    match file.read(&mut one) {
+        Ok(1) => wide(one[0]),
+        _ => 256,
     }
-    256
 }
 
 fn wide(b: u8) -> u16 {
@@ -38,7 +39,7 @@ fn ended(line: &[u8], n: usize, read: usize) -> Line {
 }
 
 // The next line, put at the start of `out` without its newline. A line that does not end within a million bytes is endless.
-pub fn read(file: i32, out: &mut [u8]) -> Line {
+pub fn read(file: &mut impl Read, out: &mut [u8]) -> Line {
     let mut n: usize = 0;
     let mut i: usize = 0;
     while i < 1000000 {

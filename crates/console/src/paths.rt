@@ -4,7 +4,7 @@ use crate::{rows, values, words};
 use quoted::Chars;
 
 // A file's name, and where the line goes on after it.
-#[derive(Drop)]
+#[derive(Clone, Copy)]
 pub struct Named {
     pub length: usize,
     pub to: usize,
@@ -43,16 +43,16 @@ fn none(to: usize) -> Named {
 }
 
 // The name at a place of the line, put into `out`; its length is 0 where there is none, which is said.
-pub fn name(line: &[u8], at: usize, out: &mut [u8]) -> Named {
+pub fn name(rt: &impl Print, line: &[u8], at: usize, out: &mut [u8]) -> Named {
     let p = words::next(line, at);
     if p.from == p.to {
-        report::text(b"a file's name is needed\n");
+        report::text(rt, b"a file's name is needed\n");
         return none(p.to);
     }
     let word = words::cut(line, p);
     let n = unquoted(word, out);
     if (n == 0) | (out.len() < n) {
-        values::complain(b"not a file's name", word);
+        values::complain(rt, b"not a file's name", word);
         return none(p.to);
     }
     Named {

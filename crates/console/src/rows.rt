@@ -45,6 +45,6 @@ pub fn put_decimal(row: &mut [u8], at: usize, n: u16, width: usize) -> usize {
 }
 
 // The row up to a place, written.
-pub fn write(row: &[u8], to: usize) {
-    report::text(words::front(row, to));
+pub fn write(rt: &impl Print, row: &[u8], to: usize) {
+    report::text(rt, words::front(row, to));
 }

@@ -48,9 +48,9 @@ pub fn piece(text: &[u8], mark: u8, n: u8) -> Part
 }
 
 // One line of a text, written without its end; how long it is.
-pub fn show(text: &[u8], n: u8) -> usize {
+pub fn show(rt: &impl Print, text: &[u8], n: u8) -> usize {
     let line = words::cut(text, piece(text, b'\n', n));
-    report::text(line);
+    report::text(rt, line);
     line.len()
 }
 

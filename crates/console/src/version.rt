@@ -1,11 +1,11 @@
 // The version, which stands here and nowhere else.
 
-fn number() {
-    report::text(b"1.0");
+fn number(rt: &impl Print) {
+    report::text(rt, b"1.0");
 }
 
-pub fn show() {
-    report::text(b"mehakuila ");
-    number();
-    report::end();
+pub fn show(rt: &impl Print) {
+    report::text(rt, b"mehakuila ");
+    number(rt);
+    report::end(rt);
 }

@@ -2,7 +2,7 @@
 ghost use Rattle.std.specs.Prelude.{◌≤◌, ◌<◌, length};
 
 // Where a word stands.
-#[derive(Drop)]
+#[derive(Clone, Copy)]
 pub struct Part {
     pub from: usize,
     pub to: usize,
@@ -66,7 +66,7 @@ pub fn skip_blanks(line: &[u8], at: usize) -> usize
 }
 
 // Where a quoted stretch stands after one more byte.
-#[derive(Drop)]
+#[derive(Clone, Copy)]
 enum Quoted {
     No,
     Yes,
