@@ -1,5 +1,5 @@
 -- The listing program: the whole output for a whole input.
-use Rattle.std.specs.Prelude.{ℕ, ◌+◌, ◌-◌, ◌*◌, ◌/◌, ◌%◌, Bool, cond, ◌&&◌, List, [], ◌∷◌, ◌++◌, eqb, leb, ltb, length, get_or, drop}
+use Rattle.std.specs.Prelude.{ℕ, ◌+◌, ◌*◌, ◌/◌, ◌%◌, Bool, cond, ◌&&◌, List, [], ◌∷◌, ◌++◌, eqb, leb, ltb, length, get_or, drop}
 unfoldable pub use Rattle.letters.specs.Letters.{hex_value}
 use Rattle.names.specs.Names.{bytes}
 use Rattle.isa.specs.Opcode.{gives_reason2}

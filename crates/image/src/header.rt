@@ -3,7 +3,7 @@ ghost use Rattle.std.specs.Prelude.{◌≡◌};
 ghost use Rattle.image.specs.Image.{header_of};
 
 // Where the bytes of an image stand.
-#[derive(Drop)]
+#[derive(Clone, Copy)]
 pub enum Header {
     At(u16),
     Bad,

@@ -1,4 +1,6 @@
 // The listing program's output for its input, but for reading and writing.
+#![tactic(auto)]
+
 mod count;
 pub mod header;
 mod lines;
@@ -11,7 +13,7 @@ use crate::header::Header;
 use isa::opcode;
 
 // The length of the text; or refusal 11.
-#[derive(Drop)]
+#[derive(Clone, Copy)]
 pub enum Output {
     Written(usize),
     NoRoom,
