@@ -10,7 +10,6 @@ use Rattle.records.specs.Record.{record_of, decoded}
 use Rattle.calls.specs.Inputs.{Input, machine}
 use Rattle.calls.specs.declared.state.Machine.{Machine as MachineT}
 use Rattle.calls.specs.declared.state.Refusal.{Refusal}
-use Rattle.calls.specs.declared.state.Refusal.TheVariants as Refusal
 use Rattle.calls.specs.declared.state.Answer.{Answer as AnswerT}
 use Rattle.calls.specs.declared.state.Answer.TheVariants.{Accepted, Stepped, Ran, Refused}
 use Rattle.calls.specs.declared.state.Stop.{Stop}

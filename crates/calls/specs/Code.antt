@@ -5,7 +5,6 @@ use Rattle.calls.specs.Inputs.{Input}
 use Rattle.calls.specs.Calls.{plain_of, world_of, replied}
 use Rattle.calls.specs.declared.state.Machine.{Machine as MachineT}
 use Rattle.calls.specs.declared.state.Refusal.{Refusal}
-use Rattle.calls.specs.declared.state.Refusal.TheVariants as Refusal
 use Rattle.calls.specs.declared.state.Answer.TheVariants.{Refused}
 use Rattle.calls.specs.declared.state.Reply.{Reply}
 
