@@ -1,4 +1,6 @@
 // Step back.
+#![tactic(auto)]
+
 ghost use Rattle.std.specs.Prelude.{◌≡◌};
 ghost use Rattle.history.specs.Trace.{back};
 ghost use Rattle.calls.specs.Calls.{check_of, world_of};
