@@ -9,14 +9,14 @@ ghost use Rattle.history.specs.Ring.{ring_of, pushed, slot_before, slot_after, s
 ghost use Rattle.history.specs.Code.{readable, newest_of, amended};
 
 // Next slot and records held.
-#[derive(Drop)]
+#[derive(Clone, Copy)]
 pub struct Place {
     pub next: usize,
     pub held: usize,
 }
 
 // A record taken back: its words, and next slot and records held without it.
-#[derive(Drop)]
+#[derive(Clone, Copy)]
 pub struct TakenBack {
     pub words: [u16; 32],
     pub place: Place,
