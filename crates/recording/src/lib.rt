@@ -1,4 +1,6 @@
 // One recorded step: every run goes step by step through it.
+#![tactic(auto)]
+
 ghost use Rattle.std.specs.Prelude.{◌≡◌};
 ghost use Rattle.isa.specs.Code.{TellsAll};
 ghost use Rattle.bus.specs.State.{cpu};
