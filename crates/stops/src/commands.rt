@@ -5,59 +5,59 @@ use console::{values, words};
 use entries::Entry;
 
 // A kind by its command's name.
-fn name(kind: u16) {
+fn name(rt: &impl Print, kind: u16) {
     if kind == list::WATCH {
-        report::text(b"watch");
+        report::text(rt, b"watch");
         return;
     }
-    report::text(b"break");
+    report::text(rt, b"break");
 }
 
-fn named(kind: u16, address: u16) {
-    name(kind);
-    report::space();
-    report::hex(address as u64, 4);
+fn named(rt: &impl Print, kind: u16, address: u16) {
+    name(rt, kind);
+    report::space(rt);
+    report::hex(rt, address as u64, 4);
 }
 
 // The end of a line: how many there are.
-fn tell_count(s: Stops) {
-    report::text(b", ");
+fn tell_count(rt: &impl Print, s: Stops) {
+    report::text(rt, b", ");
     let p = s.points;
-    report::decimal(p.count as u64);
-    report::text(b" of 64\n");
+    report::decimal(rt, p.count as u64);
+    report::text(rt, b" of 64\n");
 }
 
 // An entry with its hits, where it is of a kind; how many were listed with it.
-fn tell_entry(e: Entry, kind: u16, before: u16) -> u16 {
+fn tell_entry(rt: &impl Print, e: Entry, kind: u16, before: u16) -> u16 {
     if e.kind != kind {
         return before;
     }
-    named(kind, e.address);
-    report::text(b", hits ");
-    report::decimal(e.hits as u64);
-    report::end();
+    named(rt, kind, e.address);
+    report::text(rt, b", hits ");
+    report::decimal(rt, e.hits as u64);
+    report::end(rt);
     if before < 64 {
         return before + 1;
     }
     before
 }
 
-fn tell_none(kind: u16) {
-    report::text(b"no ");
-    name(kind);
-    report::text(b" is set\n");
+fn tell_none(rt: &impl Print, kind: u16) {
+    report::text(rt, b"no ");
+    name(rt, kind);
+    report::text(rt, b" is set\n");
 }
 
 // All of a kind, in the order in which they were set.
-fn listed(s: Stops, kind: u16) {
+fn listed(rt: &impl Print, s: Stops, kind: u16) {
     let mut n: u16 = 0;
     let mut i: usize = 0;
     while i < 64 {
-        n = tell_entry(list::entry(s, i), kind, n);
+        n = tell_entry(rt, list::entry(s, i), kind, n);
         i += 1;
     }
     if n == 0 {
-        tell_none(kind);
+        tell_none(rt, kind);
     }
 }
 
@@ -67,15 +67,15 @@ fn is_there(s: Stops, kind: u16, address: u16) -> bool {
 }
 
 // An entry that is to be added.
-fn added(s: Stops, kind: u16, address: u16) -> Stops {
+fn added(rt: &impl Print, s: Stops, kind: u16, address: u16) -> Stops {
     let p = s.points;
-    named(kind, address);
+    named(rt, kind, address);
     if is_there(s, kind, address) {
-        report::text(b" is set already\n");
+        report::text(rt, b" is set already\n");
         return s;
     }
     if 64 <= p.count {
-        report::text(b" is not set: there are 64 breaks and watches\n");
+        report::text(rt, b" is not set: there are 64 breaks and watches\n");
         return s;
     }
     let hits = 0;
@@ -87,15 +87,15 @@ fn added(s: Stops, kind: u16, address: u16) -> Stops {
             hits,
         },
     );
-    report::text(b" set");
-    tell_count(after);
+    report::text(rt, b" set");
+    tell_count(rt, after);
     after
 }
 
-fn deleted(s: Stops, kind: u16, address: u16) -> Stops {
-    named(kind, address);
+fn deleted(rt: &impl Print, s: Stops, kind: u16, address: u16) -> Stops {
+    named(rt, kind, address);
     if !is_there(s, kind, address) {
-        report::text(b" is not set\n");
+        report::text(rt, b" is not set\n");
         return s;
     }
     let g = Gone {
@@ -104,12 +104,12 @@ fn deleted(s: Stops, kind: u16, address: u16) -> Stops {
         address,
     };
     let after = list::without(s, g);
-    report::text(b" deleted");
-    tell_count(after);
+    report::text(rt, b" deleted");
+    tell_count(rt, after);
     after
 }
 
-fn deleted_all(s: Stops, kind: u16) -> Stops {
+fn deleted_all(rt: &impl Print, s: Stops, kind: u16) -> Stops {
     let g = Gone {
         kind,
         every: true,
@@ -119,73 +119,73 @@ fn deleted_all(s: Stops, kind: u16) -> Stops {
     let p = s.points;
     let q = after.points;
     if p.count == q.count {
-        tell_none(kind);
+        tell_none(rt, kind);
         return s;
     }
-    report::text(b"each ");
-    name(kind);
-    report::text(b" deleted");
-    tell_count(after);
+    report::text(rt, b"each ");
+    name(rt, kind);
+    report::text(rt, b" deleted");
+    tell_count(rt, after);
     after
 }
 
 // The address that has to stand at the end of the line.
-fn set(s: Stops, kind: u16, line: &[u8], at: usize) -> Stops {
-    let a = values::only(line, at, 0);
+fn set(rt: &impl Print, s: Stops, kind: u16, line: &[u8], at: usize) -> Stops {
+    let a = values::only(rt, line, at, 0);
     if a.is_bad {
         return s;
     }
     if a.is_given {
-        return added(s, kind, a.value);
+        return added(rt, s, kind, a.value);
     }
-    report::text(b"an address is needed\n");
+    report::text(rt, b"an address is needed\n");
     s
 }
 
 // After the minus sign: an address, or nothing.
-fn cleared(s: Stops, kind: u16, line: &[u8], at: usize) -> Stops {
-    let a = values::only(line, at, 0);
+fn cleared(rt: &impl Print, s: Stops, kind: u16, line: &[u8], at: usize) -> Stops {
+    let a = values::only(rt, line, at, 0);
     if a.is_bad {
         return s;
     }
     if a.is_given {
-        return deleted(s, kind, a.value);
+        return deleted(rt, s, kind, a.value);
     }
-    deleted_all(s, kind)
+    deleted_all(rt, s, kind)
 }
 
-fn told(s: Stops, kind: u16) -> Stops {
-    listed(s, kind);
+fn told(rt: &impl Print, s: Stops, kind: u16) -> Stops {
+    listed(rt, s, kind);
     s
 }
 
 // [-] [ADDR]
-fn asked(s: Stops, kind: u16, line: &[u8], at: usize) -> Stops {
+fn asked(rt: &impl Print, s: Stops, kind: u16, line: &[u8], at: usize) -> Stops {
     let p = words::next(line, at);
     if p.from == p.to {
-        return told(s, kind);
+        return told(rt, s, kind);
     }
     if words::is_name(words::cut(line, p), b"-") {
-        return cleared(s, kind, line, p.to);
+        return cleared(rt, s, kind, line, p.to);
     }
-    set(s, kind, line, at)
+    set(rt, s, kind, line, at)
 }
 
 // break [-] [ADDR]
-pub fn set_break(s: Stops, line: &[u8], at: usize) -> Stops {
-    asked(s, list::BREAK, line, at)
+pub fn set_break(rt: &impl Print, s: Stops, line: &[u8], at: usize) -> Stops {
+    asked(rt, s, list::BREAK, line, at)
 }
 
 // watch [-] [ADDR], and MB50's debugger's `watch r ADDR` and `watch w ADDR`, of which the machine has the second.
-pub fn set_watch(s: Stops, line: &[u8], at: usize) -> Stops {
+pub fn set_watch(rt: &impl Print, s: Stops, line: &[u8], at: usize) -> Stops {
     let p = words::next(line, at);
     let word = words::cut(line, p);
     if words::is_name(word, b"r") {
-        report::text(b"only stores are watched: watch ADDR\n");
+        report::text(rt, b"only stores are watched: watch ADDR\n");
         return s;
     }
     if words::is_name(word, b"w") {
-        return set(s, list::WATCH, line, p.to);
+        return set(rt, s, list::WATCH, line, p.to);
     }
-    asked(s, list::WATCH, line, at)
+    asked(rt, s, list::WATCH, line, at)
 }

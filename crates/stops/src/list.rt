@@ -11,7 +11,7 @@ pub const BREAK: u16 = 1;
 pub const WATCH: u16 = 2;
 
 // What the machine's watched run goes by, and the hits beside it.
-#[derive(Drop)]
+#[derive(Clone, Copy)]
 pub struct Stops {
     pub points: Points,
     pub hits: [u16; 64],
@@ -63,7 +63,7 @@ pub fn with(s: Stops, e: Entry) -> Stops
 }
 
 // What a command deletes: the entry of a kind at an address, or all of that kind.
-#[derive(Drop)]
+#[derive(Clone, Copy)]
 pub struct Gone {
     pub kind: u16,
     pub every: bool,
