@@ -1,4 +1,6 @@
 // What each input but the step does to the state, where it is accepted.
+#![tactic(auto)]
+
 ghost use Rattle.std.specs.Prelude.{◌≡◌, set};
 ghost use Rattle.calls.specs.Inputs.{signalled, ticked as tickedOf, received as receivedOf, sent_off, register_set};
 
