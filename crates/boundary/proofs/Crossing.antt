@@ -18,7 +18,6 @@ use Rattle.calls.specs.declared.state.Stop.TheVariants.{Halted, Budget}
 use Rattle.calls.specs.Calls.{W, cause_is, Keeps, answer_of, world_of, number_of, said_by, replied}
 use Rattle.calls.specs.declared.state.Machine.{Machine}
 use Rattle.calls.specs.declared.state.Refusal.{Refusal}
-use Rattle.calls.specs.declared.state.Refusal.TheVariants as Refusal
 use Rattle.calls.specs.declared.state.Answer.{Answer}
 use Rattle.calls.specs.declared.state.Answer.TheVariants.{Accepted, Stepped, Ran, Refused}
 use Rattle.calls.specs.declared.state.Reply.{Reply}
