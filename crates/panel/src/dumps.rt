@@ -6,14 +6,14 @@ use console::{rows, values};
 use word::sums;
 
 // Where the next dump starts, and how many bytes it shows.
-#[derive(Drop)]
+#[derive(Clone, Copy)]
 pub struct Spot {
     pub at: u16,
     pub size: usize,
 }
 
 // What a row shows: bytes or words, in hexadecimal or decimal.
-#[derive(Drop)]
+#[derive(Clone, Copy)]
 pub struct Form {
     pub is_words: bool,
     pub is_decimal: bool,
@@ -76,7 +76,7 @@ fn characters(row: &mut [u8], from: usize, v: Devices, ram: &[u8], at: u16) -> u
 }
 
 // The bytes or words, the characters beside bytes in hexadecimal, and what of them is protected.
-fn one_row(f: Form, state: &[u16; 32], ram: &[u8], at: u16) {
+fn one_row(rt: &impl Print, f: Form, state: &[u16; 32], ram: &[u8], at: u16) {
     let v = parts::devices(state);
     let mut room = [b' '; 96];
     let row: &mut [u8] = &mut room;
@@ -87,15 +87,15 @@ fn one_row(f: Form, state: &[u16; 32], ram: &[u8], at: u16) {
     }
     q = protection::put(row, q, state, ram.len(), at);
     let r = rows::put(row, q, b'\n');
-    rows::write(row, r);
+    rows::write(rt, row, r);
 }
 
 // So many rows; where the next one starts.
-fn all_rows(f: Form, state: &[u16; 32], ram: &[u8], from: u16, n: usize) -> u16 {
+fn all_rows(rt: &impl Print, f: Form, state: &[u16; 32], ram: &[u8], from: u16, n: usize) -> u16 {
     let mut at = from;
     let mut i: usize = 0;
     while i < n {
-        one_row(f, state, ram, at);
+        one_row(rt, f, state, ram, at);
         at = sums::plus(at, 16);
         i += 1;
     }
@@ -129,16 +129,24 @@ fn rows_of(size: usize) -> usize {
 }
 
 // dump [ADDR [SIZE]]: the bytes are rounded up to whole rows. The answer is where the next dump starts.
-pub fn dump(last: Spot, f: Form, state: &[u16; 32], ram: &[u8], line: &[u8], at: usize) -> Spot {
-    let a = values::number(line, at, last.at);
+pub fn dump(
+    rt: &impl Print,
+    last: Spot,
+    f: Form,
+    state: &[u16; 32],
+    ram: &[u8],
+    line: &[u8],
+    at: usize,
+) -> Spot {
+    let a = values::number(rt, line, at, last.at);
     if a.is_bad {
         return last;
     }
-    let n = values::only(line, a.to, 0);
+    let n = values::only(rt, line, a.to, 0);
     if n.is_bad {
         return last;
     }
     let size = size_asked(last, a, n);
-    let next = all_rows(f, state, ram, a.value, rows_of(size));
+    let next = all_rows(rt, f, state, ram, a.value, rows_of(size));
     Spot { at: next, size }
 }

@@ -1,4 +1,6 @@
 // What a person sees of the machine: its registers, flags and devices, memory, code, what a command changed, why a call was refused.
+#![tactic(auto)]
+
 pub mod changes;
 pub mod code;
 pub mod dumps;

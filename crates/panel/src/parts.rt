@@ -64,8 +64,9 @@ pub fn devices(state: &[u16; 32]) -> Devices {
 }
 
 // A part's name, written; how long it is.
-pub fn name(n: u8) -> usize {
+pub fn name(rt: &impl Print, n: u8) -> usize {
     texts::show(
+        rt,
         b"r0
 r1
 r2
@@ -119,6 +120,6 @@ pub fn width(n: u8) -> usize {
 }
 
 // What a part holds, in its digits.
-pub fn show(state: &[u16; 32], n: u8) {
-    report::hex(value(state, n) as u64, width(n));
+pub fn show(rt: &impl Print, state: &[u16; 32], n: u8) {
+    report::hex(rt, value(state, n) as u64, width(n));
 }

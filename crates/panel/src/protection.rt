@@ -17,7 +17,7 @@ pub fn drops(state: &[u16; 32], ram: usize, at: u16) -> bool {
 }
 
 // The first and the last place of a row that is protected; 16 where none is.
-#[derive(Drop)]
+#[derive(Clone, Copy)]
 struct Span {
     from: u16,
     to: u16,

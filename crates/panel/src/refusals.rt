@@ -2,8 +2,9 @@
 use console::texts;
 
 // The lines stand for the numbers from 0 on.
-fn meaning(n: u8) {
+fn meaning(rt: &impl Print, n: u8) {
     texts::show(
+        rt,
         b"accepted
 the RAM is longer than 65,504 bytes
 the journal is no multiple of 32 words, or over 32,768
@@ -22,25 +23,25 @@ operand unknown or of the wrong kind
 ",
         n,
     );
-    report::end();
+    report::end(rt);
 }
 
 // The refusal of a number; 0 is none.
-pub fn say(n: u8) {
+pub fn say(rt: &impl Print, n: u8) {
     if n == 0 {
         return;
     }
-    report::text(b"refused ");
-    report::decimal(n as u64);
-    report::text(b": ");
-    meaning(n);
+    report::text(rt, b"refused ");
+    report::decimal(rt, n as u64);
+    report::text(rt, b": ");
+    meaning(rt, n);
 }
 
 // The refusal of a byte sent, which has a cause of its own.
-pub fn say_of_sent(n: u8) {
+pub fn say_of_sent(rt: &impl Print, n: u8) {
     if n == 5 {
-        report::text(b"refused 5: no byte waits to be sent (T is 1)\n");
+        report::text(rt, b"refused 5: no byte waits to be sent (T is 1)\n");
         return;
     }
-    say(n);
+    say(rt, n);
 }

@@ -37,80 +37,80 @@ fn csr_number(word: &[u8]) -> u8 {
 }
 
 // Blanks up to a width, of which so much is used.
-fn fill(used: usize, width: usize) {
+fn fill(rt: &impl Print, used: usize, width: usize) {
     let mut i = used;
     while i < width {
-        report::space();
+        report::space(rt);
         i += 1;
     }
 }
 
 // A part's name, blanks up to a width, and what it holds.
-fn one(state: &[u16; 32], n: u8, width: usize) {
-    fill(parts::name(n), width);
-    parts::show(state, n);
+fn one(rt: &impl Print, state: &[u16; 32], n: u8, width: usize) {
+    fill(rt, parts::name(rt, n), width);
+    parts::show(rt, state, n);
 }
 
 // After the fourth of a row a line's end, else two blanks.
-fn between(n: u8) {
+fn between(rt: &impl Print, n: u8) {
     if n % 4 == 3 {
-        report::end();
+        report::end(rt);
         return;
     }
-    report::text(b"  ");
+    report::text(rt, b"  ");
 }
 
 // Parts in rows of four, up to one.
-fn table(state: &[u16; 32], first: u8, end: u8, width: usize) {
+fn table(rt: &impl Print, state: &[u16; 32], first: u8, end: u8, width: usize) {
     let mut n = first;
     while n < end {
-        one(state, n, width);
-        between(n);
+        one(rt, state, n, width);
+        between(rt, n);
         n += 1;
     }
 }
 
 // The devices and the halted mark.
-fn board(state: &[u16; 32]) {
+fn board(rt: &impl Print, state: &[u16; 32]) {
     let mut n = parts::BOARD;
     while n < parts::PARTS {
-        report::text(b"  ");
-        parts::name(n);
-        report::space();
-        parts::show(state, n);
+        report::text(rt, b"  ");
+        parts::name(rt, n);
+        report::space(rt);
+        parts::show(rt, state, n);
         n += 1;
     }
-    report::end();
+    report::end(rt);
 }
 
-pub fn show_register(state: &[u16; 32], n: u8) {
-    one(state, n, 4);
-    report::end();
+pub fn show_register(rt: &impl Print, state: &[u16; 32], n: u8) {
+    one(rt, state, n, 4);
+    report::end(rt);
 }
 
 // All registers, and what the debugger shows beside them: the flags, the devices, the halted mark.
-pub fn show_registers(state: &[u16; 32]) {
-    table(state, 0, parts::CSR, 4);
-    report::text(b"flags ");
-    status::flags(parts::f(state));
-    board(state);
+pub fn show_registers(rt: &impl Print, state: &[u16; 32]) {
+    table(rt, state, 0, parts::CSR, 4);
+    report::text(rt, b"flags ");
+    status::flags(rt, parts::f(state));
+    board(rt, state);
 }
 
 // csr [NAME]
-pub fn csr(state: &[u16; 32], line: &[u8], at: usize) {
+pub fn csr(rt: &impl Print, state: &[u16; 32], line: &[u8], at: usize) {
     let p = words::next(line, at);
     if p.from == p.to {
-        table(state, parts::CSR, parts::BOARD, 6);
+        table(rt, state, parts::CSR, parts::BOARD, 6);
         return;
     }
     let word = words::cut(line, p);
     let n = csr_number(word);
     if 15 < n {
-        values::complain(b"no such status register", word);
+        values::complain(rt, b"no such status register", word);
         return;
     }
-    if values::is_end(line, p.to) {
-        one(state, parts::CSR + n, 6);
-        report::end();
+    if values::is_end(rt, line, p.to) {
+        one(rt, state, parts::CSR + n, 6);
+        report::end(rt);
     }
 }

@@ -9,7 +9,7 @@ fn flag(bit: u16, letter: u8) -> u8 {
 }
 
 // The flags by their letters.
-pub fn flags(f: u16) {
+pub fn flags(rt: &impl Print, f: u16) {
     let marks = [
         flag(f / 256, b'I'),
         flag(f / 512, b'E'),
@@ -24,20 +24,20 @@ pub fn flags(f: u16) {
         flag(f / 2, b'1'),
         flag(f, b'0'),
     ];
-    report::text(&marks);
+    report::text(rt, &marks);
 }
 
 // A word as an instruction; a question mark where its opcode gives reason 2.
-pub fn instruction(w: u16) {
+pub fn instruction(rt: &impl Print, w: u16) {
     let mut room = [0u8; 16];
     let l = list::list(w, &mut room);
     match l {
         Listed::Text(n) => {
             if n <= 16 {
-                report::text(&room[0..n]);
+                report::text(rt, &room[0..n]);
             }
         }
-        Listed::Reason2 | Listed::NoRoom => report::text(b"?"),
+        Listed::Reason2 | Listed::NoRoom => report::text(rt, b"?"),
     }
 }
 
@@ -51,39 +51,40 @@ pub fn byte_at(state: &[u16; 32], ram: &[u8], at: u16) -> u8 {
     address::read_byte(parts::devices(state), ram, at)
 }
 
-fn bar() {
-    report::text(b" | ");
+fn bar(rt: &impl Print) {
+    report::text(rt, b" | ");
 }
 
 // The address, the instruction there, and the flags.
-pub fn place(state: &[u16; 32], ram: &[u8]) {
+pub fn place(rt: &impl Print, state: &[u16; 32], ram: &[u8]) {
     let pc = parts::pc(state);
-    report::text(b"pc ");
-    report::hex(pc as u64, 4);
-    bar();
-    instruction(word_at(state, ram, pc));
-    bar();
-    flags(parts::f(state));
-    bar();
+    report::text(rt, b"pc ");
+    report::hex(rt, pc as u64, 4);
+    bar(rt);
+    instruction(rt, word_at(state, ram, pc));
+    bar(rt);
+    flags(rt, parts::f(state));
+    bar(rt);
 }
 
-pub fn count(n: u64, one: &[u8], more: &[u8]) {
-    report::decimal(n);
-    report::space();
+pub fn count(rt: &impl Print, n: u64, one: &[u8], more: &[u8]) {
+    report::decimal(rt, n);
+    report::space(rt);
     if n == 1 {
-        report::text(one);
+        report::text(rt, one);
     } else {
-        report::text(more);
+        report::text(rt, more);
     }
 }
 
-fn comma() {
-    report::text(b", ");
+fn comma(rt: &impl Print) {
+    report::text(rt, b", ");
 }
 
-fn held(state: &[u16; 32]) {
-    comma();
+fn held(rt: &impl Print, state: &[u16; 32]) {
+    comma(rt);
     count(
+        rt,
         parts::held(state) as u64,
         b"record held\n",
         b"records held\n",
@@ -91,34 +92,49 @@ fn held(state: &[u16; 32]) {
 }
 
 // How many of those asked for.
-fn count_of(n: u64, of: u64, one: &[u8], more: &[u8]) {
+fn count_of(rt: &impl Print, n: u64, of: u64, one: &[u8], more: &[u8]) {
     if n < of {
-        report::decimal(n);
-        report::text(b" of ");
-        count(of, one, more);
+        report::decimal(rt, n);
+        report::text(rt, b" of ");
+        count(rt, of, one, more);
         return;
     }
-    count(n, one, more);
+    count(rt, n, one, more);
 }
 
 // After steps: how many, of how many that were asked for; their bus bytes, and why they stopped.
-pub fn after_steps(state: &[u16; 32], ram: &[u8], steps: u64, of: u64, bus: u64, cause: &[u8]) {
-    place(state, ram);
-    count_of(steps, of, b"step", b"steps");
-    comma();
-    count(bus, b"bus byte", b"bus bytes");
-    comma();
-    report::text(cause);
-    held(state);
+pub fn after_steps(
+    rt: &impl Print,
+    state: &[u16; 32],
+    ram: &[u8],
+    steps: u64,
+    of: u64,
+    bus: u64,
+    cause: &[u8],
+) {
+    place(rt, state, ram);
+    count_of(rt, steps, of, b"step", b"steps");
+    comma(rt);
+    count(rt, bus, b"bus byte", b"bus bytes");
+    comma(rt);
+    report::text(rt, cause);
+    held(rt, state);
 }
 
 // The same of steps back, which move no byte over the bus; those of back have no cause either.
-pub fn after_back(state: &[u16; 32], ram: &[u8], steps: u64, of: u64, cause: &[u8]) {
-    place(state, ram);
-    count_of(steps, of, b"step back", b"steps back");
+pub fn after_back(
+    rt: &impl Print,
+    state: &[u16; 32],
+    ram: &[u8],
+    steps: u64,
+    of: u64,
+    cause: &[u8],
+) {
+    place(rt, state, ram);
+    count_of(rt, steps, of, b"step back", b"steps back");
     if 0 < cause.len() {
-        comma();
-        report::text(cause);
+        comma(rt);
+        report::text(rt, cause);
     }
-    held(state);
+    held(rt, state);
 }
