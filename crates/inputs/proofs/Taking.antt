@@ -12,7 +12,6 @@ use Rattle.word.specs.Memory.{byte_in}
 use Rattle.names.specs.Names.{reg_numbered}
 use Rattle.names.specs.declared.register.Reg.{Reg}
 use Rattle.names.specs.declared.register.FoundReg.{FoundReg}
-use Rattle.names.specs.declared.register.FoundReg.TheVariants as FoundReg
 use Rattle.bus.specs.declared.state.Cpu.{Cpu}
 use Rattle.history.specs.Trace.{gives, no_run, Answer, answers, give}
 use Rattle.history.specs.Ring.{Ring, ring_of, pushed, slots}

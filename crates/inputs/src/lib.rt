@@ -1,4 +1,6 @@
 // The inputs but the step, once the checks are passed: each with its own refusal, or the next state and one record more.
+#![tactic(auto)]
+
 ghost use Rattle.std.specs.Prelude.{◌≡◌, List, ℕ};
 ghost use Rattle.history.specs.Trace.{give, gave};
 ghost use Rattle.history.specs.Ring.{ring_of, pushed, slots};
