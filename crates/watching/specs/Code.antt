@@ -9,7 +9,6 @@ use Rattle.entries.specs.declared.Entry.{Entry}
 use Rattle.entries.specs.declared.Met.{Met}
 use Rattle.watching.specs.Watched.{Stop, stops, placed, landed}
 use Rattle.watching.specs.declared.Ending.{Ending}
-use Rattle.watching.specs.declared.Ending.TheVariants as Ending
 use Rattle.watching.specs.declared.Told.{Told}
 use Rattle.watching.specs.declared.Ended.{Ended}
 

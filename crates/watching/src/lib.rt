@@ -1,4 +1,6 @@
 // The one loop over recorded steps: a run that goes by a list of breaks and watches. The plain run goes by an empty list.
+#![tactic(auto)]
+
 ghost use Rattle.std.specs.Prelude.{◌≡◌, true, cond, length};
 ghost use Rattle.isa.specs.Code.{TellsAll};
 ghost use Rattle.bus.specs.State.{cpu};
