@@ -2,6 +2,7 @@
 ghost use Rattle.std.specs.Prelude.{◌≤◌, ◌<◌};
 
 use crate::given;
+use console::arguments::{argument, count};
 use console::{texts, version, words};
 use night::notes;
 
@@ -44,7 +45,7 @@ fn ended(s: Settings) -> Settings {
 
 fn bad(rt: &HostRuntime, s: Settings, what: &[u8], i: usize) -> Settings {
     let mut room = io::buffer();
-    let n = given::argument(rt, i, &mut room);
+    let n = argument(rt, i, &mut room);
     notes::complain(rt, what, words::front(&room, n));
     usage(&rt.stderr());
     ended(s)
@@ -93,7 +94,7 @@ fn store(setup: &mut [u16], i: usize, word: u16) {
 // The number in an argument, or 65,536 where there is none in it.
 fn number_in(rt: &HostRuntime, i: usize) -> u32 {
     let mut room = io::buffer();
-    let n = given::argument(rt, i, &mut room);
+    let n = argument(rt, i, &mut room);
     given::bits(words::front(&room, n), false)
 }
 
@@ -161,7 +162,7 @@ fn with_pair(rt: &HostRuntime, s: Settings, setup: &mut [u16], word: &[u8], i: u
 
 fn with_register(rt: &HostRuntime, s: Settings, setup: &mut [u16], i: usize) -> Settings {
     let mut room = io::buffer();
-    let n = given::argument(rt, i, &mut room);
+    let n = argument(rt, i, &mut room);
     with_pair(rt, s, setup, words::front(&room, n), i)
 }
 
@@ -245,7 +246,7 @@ fn option_in(word: &[u8]) -> u8 {
 
 fn option(rt: &HostRuntime, i: usize) -> u8 {
     let mut room = io::buffer();
-    let n = given::argument(rt, i, &mut room);
+    let n = argument(rt, i, &mut room);
     option_in(words::front(&room, n))
 }
 
@@ -345,7 +346,7 @@ fn beginning(setup: &mut [u16]) -> Settings {
 // The settings; the setup's words are put into the room for them.
 pub fn read(rt: &HostRuntime, setup: &mut [u16]) -> Settings {
     let mut s = beginning(setup);
-    let n = given::argument_count(rt);
+    let n = count(rt);
     let mut i: usize = 1;
     while i < n {
         let kind = option(rt, i);

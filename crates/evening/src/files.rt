@@ -1,11 +1,17 @@
 // Files that are read whole, and what is wrong with them.
-use crate::given;
-use console::words;
+use console::files::name;
+use console::{arguments, words};
 use night::notes;
 use report::input::read_full;
 use std::fs::File;
-use std::io::{Error, ErrorKind, Read};
-use std::str;
+use std::io::{Error, ErrorKind, Read, Result};
+
+// The system's numbers of the reasons that have words of their own. An error's kind would not do: EPERM is of one kind with EACCES.
+const ENOENT: i32 = 2;
+
+const EACCES: i32 = 13;
+
+const EISDIR: i32 = 21;
 
 // How many bytes of a file stand in the room.
 #[derive(Clone, Copy)]
@@ -22,21 +28,22 @@ fn none() -> Bytes {
 }
 
 // Why a file could not be opened or read.
-fn unread(rt: &HostRuntime, why: ErrorKind, path: &[u8]) -> Bytes {
-    reason(rt, why, path);
+fn unread(rt: &HostRuntime, error: &Error, path: &[u8]) -> Bytes {
+    reason(rt, error, path);
     none()
 }
 
-fn reason(rt: &HostRuntime, why: ErrorKind, path: &[u8]) {
-    if why == ErrorKind::NotFound {
+fn reason(rt: &HostRuntime, error: &Error, path: &[u8]) {
+    let number = error.raw_os_error().unwrap_or(0);
+    if number == ENOENT {
         notes::complain(rt, b"there is no such file", path);
         return;
     }
-    if why == ErrorKind::PermissionDenied {
+    if number == EACCES {
         notes::complain(rt, b"this file may not be read by you", path);
         return;
     }
-    if why == ErrorKind::IsADirectory {
+    if number == EISDIR {
         notes::complain(rt, b"this is a folder, not a file", path);
         return;
     }
@@ -44,12 +51,12 @@ fn reason(rt: &HostRuntime, why: ErrorKind, path: &[u8]) {
 }
 
 // Whether nothing more is to be read. What a read cannot get is not the end, and its reason is told.
-fn at_end(file: &mut File) -> Result<(), ErrorKind> {
+fn at_end(file: &mut File) -> Result<()> {
     let mut one = [0u8; 1];
     match file.read(&mut one) {
         Ok(0) => Ok(()),
-        Ok(_) => Err(ErrorKind::Other),
-        Err(e) => Err(e.kind()),
+        Ok(_) => Err(Error::from(ErrorKind::Other)),
+        Err(e) => Err(e),
     }
 }
 
@@ -78,29 +85,25 @@ fn contents(rt: &HostRuntime, file: &mut File, path: &[u8], out: &mut [u8]) -> B
             length: n,
             is_good: true,
         },
-        Err(why) => unread(rt, why, path),
+        Err(e) => unread(rt, &e, path),
     }
 }
 
-// A name is text in UTF-8, or it names no file that can be opened.
-fn open(rt: &HostRuntime, path: &[u8]) -> Result<File, Error> {
-    match str::from_utf8(path) {
-        Ok(text) => File::open(rt, text),
-        Err(_) => Err(Error::from(ErrorKind::InvalidInput)),
-    }
+fn open(rt: &HostRuntime, path: &[u8]) -> Result<File> {
+    File::open(rt, name(path)?)
 }
 
 fn read_path(rt: &HostRuntime, path: &[u8], out: &mut [u8]) -> Bytes {
     match open(rt, path) {
         Ok(mut file) => contents(rt, &mut file, path, out),
-        Err(e) => unread(rt, e.kind(), path),
+        Err(e) => unread(rt, &e, path),
     }
 }
 
 // The file that an argument names.
 pub fn read(rt: &HostRuntime, argument: usize, out: &mut [u8]) -> Bytes {
     let mut path = io::buffer();
-    let n = given::argument(rt, argument, &mut path);
+    let n = arguments::argument(rt, argument, &mut path);
     if n == 0 {
         notes::say(rt, b"the name of a file is empty, or too long");
         return none();
@@ -111,7 +114,7 @@ pub fn read(rt: &HostRuntime, argument: usize, out: &mut [u8]) -> Bytes {
 // What is said of the file that an argument names.
 pub fn complain(rt: &HostRuntime, what: &[u8], argument: usize) {
     let mut path = io::buffer();
-    let n = given::argument(rt, argument, &mut path);
+    let n = arguments::argument(rt, argument, &mut path);
     notes::complain(rt, what, words::front(&path, n));
 }
 

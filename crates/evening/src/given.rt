@@ -6,29 +6,6 @@ use lexis::numbers;
 use lexis::numbers::Read;
 use names::register::{FoundReg, Reg};
 use night::notes;
-use std::env::{Env, FillError};
-
-// An argument's bytes, put at the start of `out`; how many they are. There are none where they do not fit, or there is no such argument.
-pub fn argument(rt: &impl Env, i: usize, out: &mut [u8]) -> usize
-    ensures { result ≤ length out.new }
-{
-    match rt.arg(i, out) {
-        Ok(n) => n,
-        Err(_) => 0,
-    }
-}
-
-// How many arguments there are, with the program's name.
-pub fn argument_count(rt: &impl Env) -> usize {
-    let mut room = [0u8; 1];
-    for i in 0..usize::MAX {
-        match rt.arg(i, &mut room) {
-            Ok(_) | Err(FillError::TooLong) => {}
-            Err(FillError::NotPresent) => return i,
-        }
-    }
-    usize::MAX
-}
 
 // Stands for a word that is no number.
 pub const NOT: u32 = 65536;
