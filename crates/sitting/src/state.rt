@@ -1,6 +1,8 @@
 // What stays from command to command, beside the machine, its memory and the journal.
-use libc::STDIN_FILENO;
 use panel::dumps::Spot;
+use std::fs::File;
+use std::io::{IsTerminal, Write};
+use std::os::fd::AsRawFd;
 use stops::list;
 use stops::list::Stops;
 
@@ -9,23 +11,26 @@ pub struct Desk {
     pub dump: Spot,
     // Breaks and watches.
     pub stops: Stops,
-    // The file that commands are recorded in, or -1.
-    pub log: i32,
+    // The file that commands are recorded in, if any.
+    pub log: Option<File>,
     // The command files that are open, the outermost first.
-    pub files: [i32; 8],
+    pub files: [Option<File>; 8],
     pub depth: usize,
     pub is_terminal: bool,
     pub is_over: bool,
 }
 
-pub fn opened() -> Desk {
+pub fn opened<R: Input>(rt: &R) -> Desk
+where
+    R::Reader: IsTerminal,
+{
     Desk {
         dump: Spot { at: 0, size: 16 },
         stops: list::none(),
-        log: -1,
-        files: [-1; 8],
+        log: None,
+        files: [None, None, None, None, None, None, None, None],
         depth: 0,
-        is_terminal: libc::isatty(STDIN_FILENO) == 1,
+        is_terminal: rt.reader().is_terminal(),
         is_over: false,
     }
 }
@@ -42,60 +47,81 @@ pub fn with_stops(d: Desk, stops: Stops) -> Desk {
     e
 }
 
-pub fn with_log(d: Desk, log: i32) -> Desk {
+pub fn with_log(d: Desk, log: Option<File>) -> Desk {
     let mut e = d;
     e.log = log;
     e
 }
 
-// Where the next command comes from.
-pub fn source(d: Desk) -> i32 {
-    let files = d.files;
+// The file that the next command comes from; none where that is standard input.
+pub fn source(d: &mut Desk) -> Option<&mut File> {
     let depth = d.depth;
     if depth == 0 {
-        return STDIN_FILENO;
+        return None;
     }
     if 8 < depth {
-        return STDIN_FILENO;
+        return None;
     }
-    files[depth - 1]
+    d.files[depth - 1].as_mut()
 }
 
 // Commands come from this file now; the caller sees that there is room.
-pub fn entered(d: Desk, file: i32) -> Desk {
+pub fn entered(d: Desk, file: File) -> Desk {
     let mut e = d;
-    let mut files = d.files;
-    let depth = d.depth;
+    let depth = e.depth;
     if depth < 8 {
-        files[depth] = file;
-        e.files = files;
+        e.files[depth] = Some(file);
         e.depth = depth + 1;
     }
     e
 }
 
 // The end of where commands come from: of a file, back to what named it; of standard input, the end.
-pub fn left(d: Desk) -> Desk {
+pub fn left(rt: &impl Print, d: Desk) -> Desk {
     let mut e = d;
-    let depth = d.depth;
+    let depth = e.depth;
     if depth == 0 {
-        if d.is_terminal {
-            report::end();
+        if e.is_terminal {
+            report::end(rt);
         }
         e.is_over = true;
         return e;
     }
-    libc::close(source(d));
+    if depth <= 8 {
+        e.files[depth - 1] = None;
+    }
     e.depth = depth - 1;
     e
 }
 
+// What of a desk says, before a command, whether the command is to be recorded: the number of the file that commands are recorded in, or -1, and the depth.
+#[derive(Clone, Copy)]
+pub struct Mark {
+    log: i32,
+    depth: usize,
+}
+
+fn log_number(d: &Desk) -> i32 {
+    match &d.log {
+        Some(file) => file.as_raw_fd(),
+        None => -1,
+    }
+}
+
+pub fn marked(d: &Desk) -> Mark {
+    Mark {
+        log: log_number(d),
+        depth: d.depth,
+    }
+}
+
 // A command, given before and done after, into the file that commands are recorded in. Those of files are not, since their `do` is, nor is `history`.
-pub fn log(before: Desk, after: Desk, line: &[u8]) {
-    let d = before;
-    if (d.log < 0) | ((d.depth != 0) | (d.log != after.log)) {
+pub fn log(before: Mark, after: &mut Desk, line: &[u8]) {
+    if (before.depth != 0) | (before.log != log_number(after)) {
         return;
     }
-    io::write_all(d.log, line);
-    io::write_all(d.log, b"\n");
+    if let Some(file) = &mut after.log {
+        let _ = file.write_all(line);
+        let _ = file.write_all(b"\n");
+    }
 }
