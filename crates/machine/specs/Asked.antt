@@ -2,7 +2,6 @@
 use Rattle.history.specs.Trace.{Call, give, run, back}
 use Rattle.calls.specs.Inputs.{Input, step, tick, receive, sent, set_register, poke, resets}
 use Rattle.machine.specs.declared.Call.{Call as CallT}
-use Rattle.machine.specs.declared.Call.TheVariants as CallT
 
 abbrev pub asked : CallT → Call Input
 asked CallT.Step = give step

@@ -1,4 +1,6 @@
 // A call as data, and the one way to make it.
+#![tactic(auto)]
+
 ghost use Rattle.std.specs.Prelude.{◌≡◌};
 ghost use Rattle.calls.specs.Calls.{check_of, world_of, Keeps};
 ghost use Rattle.calls.specs.Code.{Acts};
