@@ -1,6 +1,6 @@
 -- How the code's answer to a watched run stands for the rules' own.
 use Rattle.std.specs.Prelude.{ℕ, ◌≡◌, List}
-use Rattle.calls.specs.Calls.{W, world_of}
+use Rattle.calls.specs.Calls.{world_of}
 use Rattle.calls.specs.declared.state.Machine.{Machine as MachineT}
 use Rattle.entries.specs.declared.Entry.{Entry}
 use Rattle.watching.specs.Watched.{Stop, nothing}

@@ -1,4 +1,6 @@
 // The watched run as a call of the machine: its checks, the run, and the hits marked in the list.
+#![tactic(auto)]
+
 ghost use Rattle.std.specs.Prelude.{◌≤◌, ◌≡◌, List, length, true};
 ghost use Rattle.calls.specs.Calls.{world_of};
 ghost use Rattle.entries.specs.declared.Entry.{Entry};
