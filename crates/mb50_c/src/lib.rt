@@ -1,0 +1,146 @@
+// The C boundary for C: each call of `mb50` under its name in C, with the clauses that `mb50` has. Nothing is done here.
+#![tactic(auto)]
+
+ghost use Rattle.history.specs.Trace.{Call as CallOf, give, back as goesBack};
+ghost use Rattle.calls.specs.Inputs.{Input};
+ghost use Rattle.boundary.specs.Boundary.{Crosses, listed, assembled};
+ghost use Rattle.crossing.specs.Crossing.{CrossesWatched};
+ghost use Rattle.pen_crossing.specs.Crossing.{CrossesPen};
+ghost use Rattle.std.specs.Prelude.{◌≡◌, length};
+ghost use Rattle.text.specs.Listing.{list_says, list_leaves};
+ghost use Rattle.text.specs.Assembling.{assemble_says};
+
+use entries::Entry;
+
+#[unsafe(no_mangle)]
+pub extern "C" fn mb50_step(state: &mut [u16; 32], ram: &mut [u8], journal: &mut [u16]) -> u64
+    ensures { Crosses (give Input.step) state.old ram.old journal.old result state.new ram.new journal.new }
+{
+    mb50::mb50_step(state, ram, journal)
+}
+
+#[unsafe(no_mangle)]
+pub extern "C" fn mb50_tick(state: &mut [u16; 32], ram: &mut [u8], journal: &mut [u16]) -> u64
+    ensures { Crosses (give Input.tick) state.old ram.old journal.old result state.new ram.new journal.new }
+{
+    mb50::mb50_tick(state, ram, journal)
+}
+
+#[unsafe(no_mangle)]
+pub extern "C" fn mb50_receive(
+    state: &mut [u16; 32],
+    ram: &mut [u8],
+    journal: &mut [u16],
+    byte: u8,
+) -> u64
+    ensures { Crosses (give (Input.receive byte)) state.old ram.old journal.old result state.new ram.new journal.new }
+{
+    mb50::mb50_receive(state, ram, journal, byte)
+}
+
+#[unsafe(no_mangle)]
+pub extern "C" fn mb50_sent(state: &mut [u16; 32], ram: &mut [u8], journal: &mut [u16]) -> u64
+    ensures { Crosses (give Input.sent) state.old ram.old journal.old result state.new ram.new journal.new }
+{
+    mb50::mb50_sent(state, ram, journal)
+}
+
+#[unsafe(no_mangle)]
+pub extern "C" fn mb50_set_register(
+    state: &mut [u16; 32],
+    ram: &mut [u8],
+    journal: &mut [u16],
+    number: u8,
+    content: u16,
+) -> u64
+    ensures { Crosses (give (Input.set_register number content)) state.old ram.old journal.old
+        result state.new ram.new journal.new }
+{
+    mb50::mb50_set_register(state, ram, journal, number, content)
+}
+
+#[unsafe(no_mangle)]
+pub extern "C" fn mb50_poke(
+    state: &mut [u16; 32],
+    ram: &mut [u8],
+    journal: &mut [u16],
+    address: u16,
+    byte: u8,
+) -> u64
+    ensures { Crosses (give (Input.poke address byte)) state.old ram.old journal.old result state.new ram.new journal.new }
+{
+    mb50::mb50_poke(state, ram, journal, address, byte)
+}
+
+#[unsafe(no_mangle)]
+pub extern "C" fn mb50_reset(state: &mut [u16; 32], ram: &mut [u8], journal: &mut [u16]) -> u64
+    ensures { Crosses (give Input.resets) state.old ram.old journal.old result state.new ram.new journal.new }
+{
+    mb50::mb50_reset(state, ram, journal)
+}
+
+#[unsafe(no_mangle)]
+pub extern "C" fn mb50_run(
+    state: &mut [u16; 32],
+    ram: &mut [u8],
+    journal: &mut [u16],
+    budget: u16,
+) -> u64
+    ensures { Crosses (CallOf.run budget) state.old ram.old journal.old result state.new ram.new journal.new }
+{
+    mb50::mb50_run(state, ram, journal, budget)
+}
+
+// The list's entries are three words each, as C has them.
+#[unsafe(no_mangle)]
+pub extern "C" fn mb50_run_watched(
+    state: &mut [u16; 32],
+    ram: &mut [u8],
+    journal: &mut [u16],
+    list: &mut [Entry],
+    budget: u16,
+) -> u64
+    ensures { CrossesWatched budget state.old ram.old journal.old list.old
+        result state.new ram.new journal.new list.new }
+{
+    mb50::mb50_run_watched(state, ram, journal, list, budget)
+}
+
+// A pen by its line. Of the setup the first words are the name's address, the stop and the budget, then each given register's number and content.
+#[unsafe(no_mangle)]
+pub extern "C" fn mb50_pen<'a>(
+    state: &mut [u16; 32],
+    ram: &mut [u8],
+    journal: &mut [u16],
+    line: &[u8],
+    today: &'a [u8],
+    last_good: &'a [u8],
+    setup: &[u16],
+) -> u64
+    ensures { CrossesPen line.now today.now last_good.now setup.now
+        state.old ram.old journal.old result state.new ram.new journal.new }
+{
+    mb50::mb50_pen(state, ram, journal, line, today, last_good, setup)
+}
+
+#[unsafe(no_mangle)]
+pub extern "C" fn mb50_step_back(state: &mut [u16; 32], ram: &mut [u8], journal: &mut [u16]) -> u64
+    ensures { Crosses goesBack state.old ram.old journal.old result state.new ram.new journal.new }
+{
+    mb50::mb50_step_back(state, ram, journal)
+}
+
+#[unsafe(no_mangle)]
+pub extern "C" fn mb50_list(word: u16, out: &mut [u8]) -> u64
+    ensures value { result ≡ listed (list_says word (length out.old)) }
+    ensures out_after { out.new ≡ list_leaves word out.old }
+{
+    mb50::mb50_list(word, out)
+}
+
+#[unsafe(no_mangle)]
+pub extern "C" fn mb50_assemble(line: &[u8]) -> u64
+    ensures { result ≡ assembled (assemble_says line.now) }
+{
+    mb50::mb50_assemble(line)
+}
