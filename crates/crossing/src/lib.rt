@@ -1,4 +1,6 @@
 // The watched run on 32 words of state, by the addresses and kinds of a list.
+#![tactic(auto)]
+
 ghost use Rattle.std.specs.Prelude.{ℕ, ◌+◌, ◌*◌, ◌≡◌, List};
 ghost use Rattle.word.specs.Word.{low_at};
 ghost use Rattle.entries.specs.declared.Entry.{Entry};

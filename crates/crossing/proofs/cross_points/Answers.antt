@@ -1,0 +1,12 @@
+use Rattle.crossing.proofs.Results.{crosses, meets-told}
+use Rattle.crossing.proofs.cross_points.Goals as goal
+
+pub returns : goal.returns
+returns c = let a = c.args in
+    let w = a.state.now in
+    let ram = a.ram.now in
+    let ws = a.journal.now in record {
+      crosses_watched = (λ l e. crosses a.budget w ram ws l c.taken-m.result c.run_points-r.result _ _ _ _ _ c.taken-m.ensures (c.run_points-r.ensures l e)
+          (c.answer.ensures _ _ _));
+      met_value = (λ l e. meets-told a.budget w ram ws l c.taken-m.result c.run_points-r.result _ _ _ c.taken-m.ensures (c.run_points-r.ensures l e));
+    }
