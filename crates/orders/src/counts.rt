@@ -3,20 +3,20 @@ use crate::Order;
 use console::values;
 
 // The number of times, once where none is given; 0 where nothing is to be done, which was said.
-fn times(line: &[u8], at: usize, of_none: &[u8]) -> u16 {
-    let n = values::only(line, at, 1);
+fn times(rt: &impl Print, line: &[u8], at: usize, of_none: &[u8]) -> u16 {
+    let n = values::only(rt, line, at, 1);
     if n.is_bad {
         return 0;
     }
     if n.value == 0 {
-        report::text(of_none);
+        report::text(rt, of_none);
     }
     n.value
 }
 
 // tick [N]
-pub fn tick(line: &[u8], at: usize) -> Order {
-    let n = times(line, at, b"0 ticks: nothing was done\n");
+pub fn tick(rt: &impl Print, line: &[u8], at: usize) -> Order {
+    let n = times(rt, line, at, b"0 ticks: nothing was done\n");
     if n == 0 {
         return Order::Nothing;
     }
@@ -24,8 +24,8 @@ pub fn tick(line: &[u8], at: usize) -> Order {
 }
 
 // step [N]
-pub fn step(line: &[u8], at: usize) -> Order {
-    let n = times(line, at, b"0 steps: nothing was done\n");
+pub fn step(rt: &impl Print, line: &[u8], at: usize) -> Order {
+    let n = times(rt, line, at, b"0 steps: nothing was done\n");
     if n == 0 {
         return Order::Nothing;
     }
@@ -33,8 +33,8 @@ pub fn step(line: &[u8], at: usize) -> Order {
 }
 
 // back [N]
-pub fn back(line: &[u8], at: usize) -> Order {
-    let n = values::only(line, at, 1);
+pub fn back(rt: &impl Print, line: &[u8], at: usize) -> Order {
+    let n = values::only(rt, line, at, 1);
     if n.is_bad {
         return Order::Nothing;
     }
@@ -42,8 +42,8 @@ pub fn back(line: &[u8], at: usize) -> Order {
 }
 
 // execute [N]
-pub fn execute(line: &[u8], at: usize) -> Order {
-    let n = values::only(line, at, 0);
+pub fn execute(rt: &impl Print, line: &[u8], at: usize) -> Order {
+    let n = values::only(rt, line, at, 0);
     if n.is_bad {
         return Order::Nothing;
     }
@@ -54,8 +54,8 @@ pub fn execute(line: &[u8], at: usize) -> Order {
 }
 
 // rexecute [N]
-pub fn rexecute(line: &[u8], at: usize) -> Order {
-    let n = values::only(line, at, 0);
+pub fn rexecute(rt: &impl Print, line: &[u8], at: usize) -> Order {
+    let n = values::only(rt, line, at, 0);
     if n.is_bad {
         return Order::Nothing;
     }
@@ -66,8 +66,8 @@ pub fn rexecute(line: &[u8], at: usize) -> Order {
 }
 
 // sent, reset
-pub fn bare(order: Order, line: &[u8], at: usize) -> Order {
-    if values::is_end(line, at) {
+pub fn bare(rt: &impl Print, order: Order, line: &[u8], at: usize) -> Order {
+    if values::is_end(rt, line, at) {
         return order;
     }
     Order::Nothing

@@ -1,4 +1,6 @@
 // What a command asks of the machine, read off its line. What only shows something is shown here, and asks nothing.
+#![tactic(auto)]
+
 mod asking;
 mod counts;
 pub mod images;
@@ -7,12 +9,13 @@ mod stores;
 
 use console::commands;
 use panel::{code, registers};
+use std::rt::Files;
 
 // The runs of 65,535 steps after which execute stops by itself.
 pub const RUNS: usize = 100;
 
 // Calls on the machine, to be made one after the other; the bytes that they are given stand in the room that the line was read into.
-#[derive(Drop)]
+#[derive(Clone, Copy)]
 pub enum Order {
     Nothing,
     Tick(u16),
@@ -42,13 +45,20 @@ pub enum Order {
 }
 
 // The commands that only show something.
-fn shown(letter: u8, line: &[u8], at: usize, state: &[u16; 32], ram: &[u8]) -> Order {
+fn shown(
+    rt: &(impl Print + Files),
+    letter: u8,
+    line: &[u8],
+    at: usize,
+    state: &[u16; 32],
+    ram: &[u8],
+) -> Order {
     match letter {
-        b'c' => registers::csr(state, line, at),
-        b'h' => commands::help(line, at),
-        b'l' => code::list(state, ram, line, at),
-        b'S' => images::save(line, at, ram),
-        b'?' => commands::brief(line, at),
+        b'c' => registers::csr(rt, state, line, at),
+        b'h' => commands::help(rt, line, at),
+        b'l' => code::list(rt, state, ram, line, at),
+        b'S' => images::save(rt, line, at, ram),
+        b'?' => commands::brief(rt, line, at),
         _ => {}
     }
     Order::Nothing
@@ -56,6 +66,7 @@ fn shown(letter: u8, line: &[u8], at: usize, state: &[u16; 32], ram: &[u8]) -> O
 
 // The command of a row's letter, of which the line goes on at a place: an arm for each. A letter of no such command asks nothing.
 pub fn read(
+    rt: &(impl Print + Files),
     letter: u8,
     line: &[u8],
     at: usize,
@@ -64,19 +75,19 @@ pub fn read(
     room: &mut [u8],
 ) -> Order {
     match letter {
-        b'a' => stores::assembled(line, at, ram.len(), room),
-        b'b' => counts::back(line, at),
-        b'k' => stores::keys(line, at, room),
-        b'L' => images::load(line, at, ram.len(), room),
-        b'm' => stores::memset(line, at, ram.len(), room),
-        b'o' => asking::origin(line, at, ram.len()),
-        b'r' => setting::register(line, at, state),
-        b'R' => counts::bare(Order::Reset, line, at),
-        b's' => counts::step(line, at),
-        b't' => counts::bare(Order::Sent, line, at),
-        b'T' => counts::tick(line, at),
-        b'x' => counts::execute(line, at),
-        b'X' => counts::rexecute(line, at),
-        _ => shown(letter, line, at, state, ram),
+        b'a' => stores::assembled(rt, line, at, ram.len(), room),
+        b'b' => counts::back(rt, line, at),
+        b'k' => stores::keys(rt, line, at, room),
+        b'L' => images::load(rt, line, at, ram.len(), room),
+        b'm' => stores::memset(rt, line, at, ram.len(), room),
+        b'o' => asking::origin(rt, line, at, ram.len()),
+        b'r' => setting::register(rt, line, at, state),
+        b'R' => counts::bare(rt, Order::Reset, line, at),
+        b's' => counts::step(rt, line, at),
+        b't' => counts::bare(rt, Order::Sent, line, at),
+        b'T' => counts::tick(rt, line, at),
+        b'x' => counts::execute(rt, line, at),
+        b'X' => counts::rexecute(rt, line, at),
+        _ => shown(rt, letter, line, at, state, ram),
     }
 }

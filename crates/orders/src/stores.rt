@@ -9,14 +9,14 @@ use text::assemble;
 use text::assemble::Assembled;
 
 // How many bytes the values are; or one of them is bad, which was said.
-#[derive(Drop)]
+#[derive(Clone, Copy)]
 enum Bytes {
     Are(usize),
     Bad,
 }
 
-fn bad(what: &[u8], word: &[u8]) -> Bytes {
-    values::complain(what, word);
+fn bad(rt: &impl Print, what: &[u8], word: &[u8]) -> Bytes {
+    values::complain(rt, what, word);
     Bytes::Bad
 }
 
@@ -31,27 +31,34 @@ fn more(at: usize, n: usize) -> Bytes {
     Bytes::Are(at + n)
 }
 
-fn counted(c: Chars, word: &[u8], at: usize) -> Bytes {
+fn counted(rt: &impl Print, c: Chars, word: &[u8], at: usize) -> Bytes {
     match c {
         Chars::Are(n) => more(at, n),
-        Chars::Bad => bad(b"not a string in double quotes", word),
-        Chars::NoRoom => bad(b"more bytes than can be given at once", word),
+        Chars::Bad => bad(rt, b"not a string in double quotes", word),
+        Chars::NoRoom => bad(rt, b"more bytes than can be given at once", word),
     }
 }
 
 // A string's bytes, put at a place.
-fn string(word: &[u8], out: &mut [u8], at: usize) -> Bytes {
+fn string(rt: &impl Print, word: &[u8], out: &mut [u8], at: usize) -> Bytes {
     if out.len() < at {
-        return bad(b"more bytes than can be given at once", word);
+        return bad(rt, b"more bytes than can be given at once", word);
     }
     let c = paths::string(word, &mut out[at..]);
-    counted(c, word, at)
+    counted(rt, c, word, at)
 }
 
 // A number's byte, or its two bytes with the lower first.
-fn placed(v: Value, word: &[u8], out: &mut [u8], at: usize, words_too: bool) -> Bytes {
+fn placed(
+    rt: &impl Print,
+    v: Value,
+    word: &[u8],
+    out: &mut [u8],
+    at: usize,
+    words_too: bool,
+) -> Bytes {
     if v.word & !words_too {
-        return bad(b"not a byte", word);
+        return bad(rt, b"not a byte", word);
     }
     let p = rows::put(out, at, (v.bits % 256) as u8);
     if v.word {
@@ -60,28 +67,28 @@ fn placed(v: Value, word: &[u8], out: &mut [u8], at: usize, words_too: bool) -> 
     Bytes::Are(p)
 }
 
-fn number(word: &[u8], out: &mut [u8], at: usize, words_too: bool) -> Bytes {
+fn number(rt: &impl Print, word: &[u8], out: &mut [u8], at: usize, words_too: bool) -> Bytes {
     let r = numbers::number(word);
     if let Read::Is(v) = r {
-        return placed(v, word, out, at, words_too);
+        return placed(rt, v, word, out, at, words_too);
     }
-    values::unread(r, word);
+    values::unread(rt, r, word);
     Bytes::Bad
 }
 
-fn value(word: &[u8], out: &mut [u8], at: usize, words_too: bool) -> Bytes {
+fn value(rt: &impl Print, word: &[u8], out: &mut [u8], at: usize, words_too: bool) -> Bytes {
     if words::byte_at(word, 0) == b'"' {
-        return string(word, out, at);
+        return string(rt, word, out, at);
     }
-    number(word, out, at, words_too)
+    number(rt, word, out, at, words_too)
 }
 
 // All values from a place of the line on, as bytes at the start of `out`; there has to be one.
-fn all(line: &[u8], at: usize, out: &mut [u8], words_too: bool) -> Bytes {
+fn all(rt: &impl Print, line: &[u8], at: usize, out: &mut [u8], words_too: bool) -> Bytes {
     let mut n: usize = 0;
     let mut p = words::next(line, at);
     if p.from == p.to {
-        report::text(b"a value is needed\n");
+        report::text(rt, b"a value is needed\n");
         return Bytes::Bad;
     }
     let mut left = line.len();
@@ -90,7 +97,7 @@ fn all(line: &[u8], at: usize, out: &mut [u8], words_too: bool) -> Bytes {
         if p.from == p.to {
             return Bytes::Are(n);
         }
-        let b = value(words::cut(line, p), out, n, words_too);
+        let b = value(rt, words::cut(line, p), out, n, words_too);
         let Bytes::Are(k) = b else {
             return Bytes::Bad;
         };
@@ -101,11 +108,11 @@ fn all(line: &[u8], at: usize, out: &mut [u8], words_too: bool) -> Bytes {
 }
 
 // Whether bytes are all in RAM; where not, that is said.
-fn fits(at: u16, n: usize, ram: usize) -> bool {
+fn fits(rt: &impl Print, at: u16, n: usize, ram: usize) -> bool {
     if is_within(at, n, ram) {
         return true;
     }
-    refusals::say(7);
+    refusals::say(rt, 7);
     false
 }
 
@@ -122,56 +129,56 @@ pub fn is_within(at: u16, n: usize, ram: usize) -> bool {
 }
 
 // What was stored or loaded, and where.
-pub fn tell(what: &[u8], n: usize, at: u16) {
-    report::text(what);
-    report::space();
-    report::decimal(n as u64);
+pub fn tell(rt: &impl Print, what: &[u8], n: usize, at: u16) {
+    report::text(rt, what);
+    report::space(rt);
+    report::decimal(rt, n as u64);
     if n == 1 {
-        report::text(b" byte at ");
+        report::text(rt, b" byte at ");
     } else {
-        report::text(b" bytes at ");
+        report::text(rt, b" bytes at ");
     }
-    report::hex(at as u64, 4);
-    report::end();
+    report::hex(rt, at as u64, 4);
+    report::end(rt);
 }
 
-fn stored(b: Bytes, at: u16, ram: usize) -> Order {
+fn stored(rt: &impl Print, b: Bytes, at: u16, ram: usize) -> Order {
     let Bytes::Are(n) = b else {
         return Order::Nothing;
     };
-    if !fits(at, n, ram) {
+    if !fits(rt, at, n, ram) {
         return Order::Nothing;
     }
-    tell(b"stored", n, at);
+    tell(rt, b"stored", n, at);
     Order::Pokes(at, n)
 }
 
 // memset ADDR VALUE..
-pub fn memset(line: &[u8], at: usize, ram: usize, room: &mut [u8]) -> Order {
-    let a = values::needed(line, at, b"an address is needed");
+pub fn memset(rt: &impl Print, line: &[u8], at: usize, ram: usize, room: &mut [u8]) -> Order {
+    let a = values::needed(rt, line, at, b"an address is needed");
     if a.is_bad {
         return Order::Nothing;
     }
-    stored(all(line, a.to, room, true), a.value, ram)
+    stored(rt, all(rt, line, a.to, room, true), a.value, ram)
 }
 
 // key BYTE..
-pub fn keys(line: &[u8], at: usize, room: &mut [u8]) -> Order {
-    let b = all(line, at, room, false);
+pub fn keys(rt: &impl Print, line: &[u8], at: usize, room: &mut [u8]) -> Order {
+    let b = all(rt, line, at, room, false);
     match b {
         Bytes::Are(n) => Order::Keys(n),
         Bytes::Bad => Order::Nothing,
     }
 }
 
-fn refused(n: u8) -> Order {
-    refusals::say(n);
+fn refused(rt: &impl Print, n: u8) -> Order {
+    refusals::say(rt, n);
     Order::Nothing
 }
 
 // An instruction's two bytes.
-fn code(word: u16, at: u16, ram: usize, room: &mut [u8]) -> Order {
-    if !fits(at, 2, ram) {
+fn code(rt: &impl Print, word: u16, at: u16, ram: usize, room: &mut [u8]) -> Order {
+    if !fits(rt, at, 2, ram) {
         return Order::Nothing;
     }
     let p = rows::put(room, 0, (word % 256) as u8);
@@ -180,16 +187,16 @@ fn code(word: u16, at: u16, ram: usize, room: &mut [u8]) -> Order {
 }
 
 // assemble ADDR LINE
-pub fn assembled(line: &[u8], at: usize, ram: usize, room: &mut [u8]) -> Order {
-    let a = values::needed(line, at, b"an address is needed");
+pub fn assembled(rt: &impl Print, line: &[u8], at: usize, ram: usize, room: &mut [u8]) -> Order {
+    let a = values::needed(rt, line, at, b"an address is needed");
     if a.is_bad {
         return Order::Nothing;
     }
     let w = assemble::assemble(words::rest(line, a.to));
     match w {
-        Assembled::Word(word) => code(word, a.value, ram, room),
-        Assembled::BadLine => refused(12),
-        Assembled::BadMnemonic => refused(13),
-        Assembled::BadOperand => refused(14),
+        Assembled::Word(word) => code(rt, word, a.value, ram, room),
+        Assembled::BadLine => refused(rt, 12),
+        Assembled::BadMnemonic => refused(rt, 13),
+        Assembled::BadOperand => refused(rt, 14),
     }
 }
