@@ -1,8 +1,10 @@
 // One pen: its name looked up and poked, the given registers set, the firmware's matching routine run, r0 reported. All by the machine's calls.
+#![tactic(auto)]
+
 mod checking;
 mod giving;
 mod poking;
-mod running;
+mod runs;
 
 ghost use Rattle.std.specs.Prelude.{◌+◌, ◌≤◌, ◌≡◌, true, length, get_or, drop};
 ghost use Rattle.calls.specs.Calls.{world_of};
@@ -76,7 +78,7 @@ fn accepted(
         ≡ report_as result ram.new journal.new }
 {
     let ready = prepared(m, ram, journal, name, n, setup);
-    running::run(ready, ram, journal, held, setup)
+    runs::run(ready, ram, journal, held, setup)
 }
 
 // What refuses a whole list before any pen: 1, 2, 3, 6 or 0.
