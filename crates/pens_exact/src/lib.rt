@@ -1,1 +1,2 @@
 // What the pen bench may count on, as theorems. No code.
+#![tactic(auto)]
