@@ -3,7 +3,7 @@ use console::rows;
 
 // The entry that stopped a run, by kind (1 break, 2 watch, 0 none) and address; its hits, but 0 where they do not count; and of a watch the byte that was
 // stored over, before and after.
-#[derive(Drop)]
+#[derive(Clone, Copy)]
 pub struct Stop {
     pub kind: u16,
     pub address: u16,

@@ -13,11 +13,11 @@ pub fn value_in(order: Order, state: &[u16; 32], ram: &[u8]) -> u16 {
     }
 }
 
-fn name(order: Order) {
+fn name(rt: &impl Print, order: Order) {
     match order {
-        Order::OriginOfByte(a) => changes::place_name(a),
+        Order::OriginOfByte(a) => changes::place_name(rt, a),
         Order::OriginOfPart(n) => {
-            parts::name(n);
+            parts::name(rt, n);
         }
         _ => {}
     }
@@ -30,24 +30,25 @@ fn width(order: Order) -> usize {
     }
 }
 
-fn tell_at(pc: u16) {
-    report::text(b" at ");
-    report::hex(pc as u64, 4);
+fn tell_at(rt: &impl Print, pc: u16) {
+    report::text(rt, b" at ");
+    report::hex(rt, pc as u64, 4);
 }
 
 // The instruction at pc, or the entry there.
-fn tell_step(is_entry: bool, w: u16, pc: u16) {
+fn tell_step(rt: &impl Print, is_entry: bool, w: u16, pc: u16) {
     if is_entry {
-        report::text(b"the entry to an interrupt");
+        report::text(rt, b"the entry to an interrupt");
     } else {
-        status::instruction(w);
+        status::instruction(rt, w);
     }
-    tell_at(pc);
+    tell_at(rt, pc);
 }
 
 // An input from outside, by its line here.
-fn tell_outside(n: u8) {
+fn tell_outside(rt: &impl Print, n: u8) {
     texts::show(
+        rt,
         b"a poke
 a tick
 a byte from the keyboard
@@ -59,39 +60,39 @@ hand
     );
 }
 
-fn tell_input(i: Input, w: u16, pc: u16) {
+fn tell_input(rt: &impl Print, i: Input, w: u16, pc: u16) {
     match i {
-        Input::Instruction => tell_step(false, w, pc),
-        Input::Interrupt => tell_step(true, w, pc),
-        Input::Poke => tell_outside(0),
-        Input::Tick => tell_outside(1),
-        Input::Key => tell_outside(2),
-        Input::Sent => tell_outside(3),
-        Input::Reset => tell_outside(4),
-        Input::Hand => tell_outside(5),
+        Input::Instruction => tell_step(rt, false, w, pc),
+        Input::Interrupt => tell_step(rt, true, w, pc),
+        Input::Poke => tell_outside(rt, 0),
+        Input::Tick => tell_outside(rt, 1),
+        Input::Key => tell_outside(rt, 2),
+        Input::Sent => tell_outside(rt, 3),
+        Input::Reset => tell_outside(rt, 4),
+        Input::Hand => tell_outside(rt, 5),
     }
 }
 
 // What changed, from and to what.
-pub fn tell_change(order: Order, old: u16, new: u16) {
-    name(order);
-    changes::arrow(old, new, width(order));
+pub fn tell_change(rt: &impl Print, order: Order, old: u16, new: u16) {
+    name(rt, order);
+    changes::arrow(rt, old, new, width(order));
 }
 
 // By which input at pc, how long ago.
-pub fn tell_by(i: Input, w: u16, pc: u16, records: u16) {
-    report::text(b" by ");
-    tell_input(i, w, pc);
-    report::text(b", ");
-    status::count(records as u64, b"record ago\n", b"records ago\n");
+pub fn tell_by(rt: &impl Print, i: Input, w: u16, pc: u16, records: u16) {
+    report::text(rt, b" by ");
+    tell_input(rt, i, w, pc);
+    report::text(rt, b", ");
+    status::count(rt, records as u64, b"record ago\n", b"records ago\n");
 }
 
 // That no record changed it.
-pub fn tell_none(order: Order, value: u16, held: u16) {
-    name(order);
-    report::text(b" is ");
-    report::hex(value as u64, width(order));
-    report::text(b"; none of the ");
-    report::decimal(held as u64);
-    report::text(b" records held changed it\n");
+pub fn tell_none(rt: &impl Print, order: Order, value: u16, held: u16) {
+    name(rt, order);
+    report::text(rt, b" is ");
+    report::hex(rt, value as u64, width(order));
+    report::text(rt, b"; none of the ");
+    report::decimal(rt, held as u64);
+    report::text(rt, b" records held changed it\n");
 }

@@ -2,7 +2,7 @@
 use panel::parts;
 
 // A step that changed something was an instruction or the entry to an interrupt; the other inputs come from outside the program.
-#[derive(Drop)]
+#[derive(Clone, Copy)]
 pub enum Input {
     Instruction,
     Interrupt,

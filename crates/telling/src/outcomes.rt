@@ -1,7 +1,7 @@
 // What calls, made one after the other, leave.
 
 // How many were accepted, the steps that they did with their bus bytes, whether the last run halted, and the number of the last call's refusal or 0.
-#[derive(Drop)]
+#[derive(Clone, Copy)]
 pub struct Outcome {
     pub calls: u64,
     pub steps: u64,
