@@ -1,4 +1,6 @@
 // A pen on 32 words of state.
+#![tactic(auto)]
+
 ghost use Rattle.std.specs.Prelude.{ℕ, ◌≡◌, List};
 ghost use Rattle.boundary.specs.Boundary.{packed, leaves};
 ghost use Rattle.crossing.specs.Crossing.{ending_number};
