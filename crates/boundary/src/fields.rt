@@ -2,7 +2,7 @@
 ghost use Rattle.std.specs.Prelude.{◌≡◌, not, eqb};
 ghost use Rattle.calls.specs.Calls.{W, cause_is, said_by};
 ghost use Rattle.text.specs.Answer.{listed_as, assembled_as};
-ghost use Rattle.boundary.specs.Boundary.{packed, cause_number, result_of, listed as listedBy, assembled as assembledBy};
+ghost use Rattle.boundary.specs.Boundary.{packed, cause_number, result_of, listed as listed_by, assembled as assembled_by};
 
 use calls::state;
 use calls::state::{Answer, Run, Stop};
@@ -64,7 +64,7 @@ fn text(number: u8, value: u16) -> u64
 }
 
 pub fn listed(answer: Listed) -> u64
-    ensures { result ≡ listedBy (listed_as answer) }
+    ensures { result ≡ listed_by (listed_as answer) }
 {
     match answer {
         Listed::Text(length) => text(0, (length % 65536) as u16),
@@ -74,7 +74,7 @@ pub fn listed(answer: Listed) -> u64
 }
 
 pub fn assembled(answer: Assembled) -> u64
-    ensures { result ≡ assembledBy (assembled_as answer) }
+    ensures { result ≡ assembled_by (assembled_as answer) }
 {
     match answer {
         Assembled::Word(word) => text(0, word),

@@ -1,7 +1,7 @@
 // The machine as 32 words, and back.
 ghost use Rattle.std.specs.Prelude.{◌≡◌, List, ℕ};
 ghost use Rattle.calls.specs.Calls.{replied};
-ghost use Rattle.boundary.specs.Boundary.{start_words, stretch_in, taken as takenFrom, given_but, crossed, leaves};
+ghost use Rattle.boundary.specs.Boundary.{start_words, stretch_in, taken as taken_from, given_but, crossed, leaves};
 
 use crate::fields;
 use bus::state::Stretch;
@@ -31,7 +31,7 @@ fn stretch(words: [u16; 32]) -> Stretch
 // The machine that the words say. They stand as in a journal record, with next slot and records held in the places of the bytes written and
 // their first address.
 pub fn taken(words: [u16; 32]) -> Machine
-    ensures { result ≡ takenFrom words }
+    ensures { result ≡ taken_from words }
 {
     let b = records::decode(words, stretch(words));
     let c = b.cpu;

@@ -1,6 +1,6 @@
 // The processor's state and the device registers.
 ghost use Rattle.std.specs.Prelude.{◌≡◌};
-ghost use Rattle.bus.specs.State.{reset as resetOf, unprotected as noneOf};
+ghost use Rattle.bus.specs.State.{reset as reset_of, unprotected as none_of};
 
 // The clock's counter, the keyboard's registers and its ready bits.
 #[derive(Clone, Copy)]
@@ -21,7 +21,7 @@ pub struct Stretch {
 
 // No protected address.
 pub fn unprotected() -> Stretch
-    ensures { result ≡ noneOf }
+    ensures { result ≡ none_of }
 {
     Stretch { first: 1, last: 0 }
 }
@@ -43,7 +43,7 @@ pub struct Cpu {
 
 // The state at the start and after a reset, of a machine with these protected addresses.
 pub fn reset(stretch: Stretch) -> Cpu
-    ensures { result ≡ resetOf stretch }
+    ensures { result ≡ reset_of stretch }
 {
     Cpu {
         regs: [0u16; 16],

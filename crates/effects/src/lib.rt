@@ -2,7 +2,7 @@
 #![tactic(auto)]
 
 ghost use Rattle.std.specs.Prelude.{◌≡◌, set};
-ghost use Rattle.calls.specs.Inputs.{signalled, ticked as tickedOf, received as receivedOf, sent_off, register_set};
+ghost use Rattle.calls.specs.Inputs.{signalled, ticked as ticked_of, received as received_of, sent_off, register_set};
 
 use bus::state::{Cpu, Devices};
 use names::register::{F, Reg};
@@ -22,7 +22,7 @@ fn signal(c: Cpu, flag: u16, v: Devices) -> Cpu
 }
 
 pub fn ticked(c: Cpu) -> Cpu
-    ensures { result ≡ tickedOf c }
+    ensures { result ≡ ticked_of c }
 {
     let mut v = c.board.devices;
     v.clock = sums::plus(v.clock, 1);
@@ -30,7 +30,7 @@ pub fn ticked(c: Cpu) -> Cpu
 }
 
 pub fn received(c: Cpu, b: u8) -> Cpu
-    ensures { result ≡ receivedOf b c }
+    ensures { result ≡ received_of b c }
 {
     let mut v = c.board.devices;
     v.rxd = b;

@@ -2,7 +2,7 @@
 #![tactic(auto)]
 
 ghost use Rattle.std.specs.Prelude.{◌≡◌, length};
-ghost use Rattle.entries.specs.Entries.{entry, meets as meetsIt, counted as counted_by, marked, place_of, all_known};
+ghost use Rattle.entries.specs.Entries.{entry, meets as meets_it, counted as counted_by, marked, place_of, all_known};
 ghost use Rattle.entries.specs.Code.{bare, no_points, added, points_of, raised_all};
 
 // As the C boundary has it: three words of 16 bits.
@@ -31,7 +31,7 @@ pub struct Points {
 }
 
 fn meets(address: u16, kind: u16, x: Met) -> bool
-    ensures { result ≡ meetsIt x (entry address kind 0) }
+    ensures { result ≡ meets_it x (entry address kind 0) }
 {
     let first = (0 < x.count) & (address == x.first);
     let second = (1 < x.count) & (address == word::sums::plus(x.first, 1));
@@ -57,7 +57,7 @@ fn counted(e: Entry, x: Met) -> Entry
 // The place of the first entry that is met, or the list's length.
 pub fn first(addresses: &[u16], kinds: &[u16], x: Met) -> usize
     requires { length kinds.now ≡ length addresses.now }
-    ensures { result ≡ place_of (meetsIt x) (bare addresses.now kinds.now) }
+    ensures { result ≡ place_of (meets_it x) (bare addresses.now kinds.now) }
 {
     let mut i = 0;
     while i < addresses.len() {

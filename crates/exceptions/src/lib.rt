@@ -3,14 +3,14 @@
 
 ghost use Rattle.std.specs.Prelude.{◌≡◌};
 ghost use Rattle.bus.specs.State.{cpu, with_halted};
-ghost use Rattle.exceptions.specs.Exceptions.{due as isDue, entered, illegal, settled_csrs, settled_halt};
+ghost use Rattle.exceptions.specs.Exceptions.{due as is_due, entered, illegal, settled_csrs, settled_halt};
 
 use bus::state::Board;
 use names::register::{F, IA, PC};
 use word::{bits, choice, halves};
 
 pub fn due(f: u16) -> bool
-    ensures { result ≡ isDue f }
+    ensures { result ≡ is_due f }
 {
     choice::both(bits::bit(f, 8), 0 < f / 512)
 }

@@ -2,7 +2,7 @@
 ghost use Rattle.std.specs.Prelude.{◌≡◌, ◌++◌, ◌+◌, ◌%◌, ◌≤◌, length};
 ghost use Rattle.std.proofs.lemmas.List.Edits.{sets};
 ghost use Rattle.isa.specs.Code.{TellsAll};
-ghost use Rattle.names.specs.Names.{bytes as Names·bytes};
+ghost use Rattle.names.specs.Names.{bytes as text_bytes};
 ghost use Rattle.image.specs.Image.{hex_digit, hex_byte, hex_word, instruction_of, pair_line, last_line, lines_of};
 
 use text::list;
@@ -28,7 +28,7 @@ fn digit(n: u16) -> u8
 
 // What stands in front of an instruction: its address and its two bytes, each with a blank after it.
 fn front(a: u16, b: u8, c: u8) -> [u8; 11]
-    ensures { result ≡ hex_word a ++ (Names·bytes " " ++ (hex_byte b ++ (Names·bytes " " ++ (hex_byte c ++ Names·bytes " ")))) }
+    ensures { result ≡ hex_word a ++ (text_bytes " " ++ (hex_byte b ++ (text_bytes " " ++ (hex_byte c ++ text_bytes " ")))) }
 {
     [
         digit(a / 4096),
@@ -47,9 +47,9 @@ fn front(a: u16, b: u8, c: u8) -> [u8; 11]
 
 // An instruction's text, or a question mark, and the line's end. `NoRoom` does not come: there is room for the text.
 fn put_instruction(table: &[u8; 256], out: &mut [u8], at: usize, w: u16) -> usize
-    requires { TellsAll table.now × (at + length (instruction_of w ++ Names·bytes "\n") ≤ length out.old) }
-    ensures value { result ≡ at + length (instruction_of w ++ Names·bytes "\n") }
-    ensures out_after { out.new ≡ sets out.old at (instruction_of w ++ Names·bytes "\n") }
+    requires { TellsAll table.now × (at + length (instruction_of w ++ text_bytes "\n") ≤ length out.old) }
+    ensures value { result ≡ at + length (instruction_of w ++ text_bytes "\n") }
+    ensures out_after { out.new ≡ sets out.old at (instruction_of w ++ text_bytes "\n") }
 {
     match list::list_in(table, w, &mut out[at..]) {
         Listed::Text(n) => put(out, at + n, b"\n"),

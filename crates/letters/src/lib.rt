@@ -2,11 +2,11 @@
 #![tactic(auto)]
 
 ghost use Rattle.std.specs.Prelude.{◌≡◌, ◌≤◌};
-ghost use Rattle.letters.specs.Letters.{lower as lowerOf, blank, wordy, hex_value};
+ghost use Rattle.letters.specs.Letters.{lower as lower_of, blank, wordy, hex_value};
 
 // A letter as a small one; any other byte as it is.
 pub fn lower(b: u8) -> u8
-    ensures { result ≡ lowerOf b }
+    ensures { result ≡ lower_of b }
 {
     if b < 65 {
         return b;

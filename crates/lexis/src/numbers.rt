@@ -1,6 +1,6 @@
 // Numbers: decimal, hexadecimal (0x) and binary (0b), in groups, with a minus sign; and characters in quotes.
 ghost use Rattle.std.specs.Prelude.{◌≡◌, ◌+◌, ◌*◌, ◌≤◌, min};
-ghost use Rattle.lexis.specs.Numbers.{most as most_of, valued_of, unsigned_in, base_by, unsigned_of, minus_of, negated as negatedOf, of_chars, character_of, number_of};
+ghost use Rattle.lexis.specs.Numbers.{most as most_of, valued_of, unsigned_in, base_by, unsigned_of, minus_of, negated as negated_of, of_chars, character_of, number_of};
 ghost use Rattle.quoted.specs.Quoted.{meant};
 ghost use Rattle.lexis.specs.Code.{longer_of, figures_of, judged_of, chars_value};
 ghost use Rattle.quoted.specs.declared.Mode.TheVariants.{Plain};
@@ -152,7 +152,7 @@ fn in_base(text: &[u8], base: u8) -> Read
 // The base that the first two bytes name.
 fn base_by(first: u8, second: u8) -> u8
     ensures value { result ≡ base_by first second }
-    ensures lower_bound { (1 ≤ result) × (result ≤ 16) }
+    ensures in_range { (1 ≤ result) × (result ≤ 16) }
 {
     if first != 48 {
         return 10;
@@ -182,7 +182,7 @@ pub fn unsigned(word: &[u8]) -> Read
 }
 
 fn negated(r: Read) -> Read
-    ensures { result ≡ negatedOf r }
+    ensures { result ≡ negated_of r }
 {
     match r {
         Read::Is(v) => minus(v.bits),

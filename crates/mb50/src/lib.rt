@@ -1,5 +1,5 @@
 // The C boundary: the calls on 32 words of state, lent bytes and lent journal words, and the text of instructions. No rule of its own.
-ghost use Rattle.history.specs.Trace.{Call as CallOf, give, back as goesBack};
+ghost use Rattle.history.specs.Trace.{Call as CallOf, give, back as goes_back};
 ghost use Rattle.calls.specs.Inputs.{Input};
 ghost use Rattle.machine.specs.Asked.{asked};
 ghost use Rattle.boundary.specs.Boundary.{Crosses, listed, assembled};
@@ -138,7 +138,7 @@ pub extern "C" fn mb50_pen<'a>(
 
 #[unsafe(no_mangle)]
 pub extern "C" fn mb50_step_back(state: &mut [u16; 32], ram: &mut [u8], journal: &mut [u16]) -> u64
-    ensures { Crosses goesBack state.old ram.old journal.old result state.new ram.new journal.new }
+    ensures { Crosses goes_back state.old ram.old journal.old result state.new ram.new journal.new }
 {
     cross(Call::Back, state, ram, journal)
 }

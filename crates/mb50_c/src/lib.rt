@@ -1,7 +1,7 @@
 // The C boundary for C: each call of `mb50` under its name in C, with the clauses that `mb50` has. Nothing is done here.
 #![tactic(auto)]
 
-ghost use Rattle.history.specs.Trace.{Call as CallOf, give, back as goesBack};
+ghost use Rattle.history.specs.Trace.{Call as CallOf, give, back as goes_back};
 ghost use Rattle.calls.specs.Inputs.{Input};
 ghost use Rattle.boundary.specs.Boundary.{Crosses, listed, assembled};
 ghost use Rattle.crossing.specs.Crossing.{CrossesWatched};
@@ -125,7 +125,7 @@ pub extern "C" fn mb50_pen<'a>(
 
 #[unsafe(no_mangle)]
 pub extern "C" fn mb50_step_back(state: &mut [u16; 32], ram: &mut [u8], journal: &mut [u16]) -> u64
-    ensures { Crosses goesBack state.old ram.old journal.old result state.new ram.new journal.new }
+    ensures { Crosses goes_back state.old ram.old journal.old result state.new ram.new journal.new }
 {
     mb50::mb50_step_back(state, ram, journal)
 }

@@ -4,7 +4,7 @@ ghost use Rattle.word.specs.Word.{join_at, low_at, high_at};
 ghost use Rattle.bus.specs.State.{word as word_in};
 ghost use Rattle.bus.specs.Addresses.{byte_at, word_at};
 ghost use Rattle.memory.specs.Instructions.{loads, loaded, plus2};
-ghost use Rattle.memory.specs.Code.{loads_byte, goes as goesIf, steps_after, steps_past};
+ghost use Rattle.memory.specs.Code.{loads_byte, goes as goes_if, steps_after, steps_past};
 
 use bus::address;
 use bus::state::Devices;
@@ -51,7 +51,7 @@ fn loads_byte(op: LoadOp) -> bool
 }
 
 fn goes(op: LoadOp, held: bool) -> bool
-    ensures { result ≡ goesIf op held }
+    ensures { result ≡ goes_if op held }
 {
     match op {
         LoadOp::Ld => true,
@@ -95,7 +95,7 @@ pub fn load(
     opcode: u8,
     operands: u8,
 ) -> u8
-    ensures result_after { loads regs.new result ≡ loaded op regs.old v ram.now opcode (high_at 4 operands) (low_at 4 operands) }
+    ensures regs_after { loads regs.new result ≡ loaded op regs.old v ram.now opcode (high_at 4 operands) (low_at 4 operands) }
     ensures few { result ≤ 2 }
 {
     let d = (operands / 16) as usize;

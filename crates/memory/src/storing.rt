@@ -2,9 +2,9 @@
 ghost use Rattle.std.specs.Prelude.{◌≡◌, cond, List, ℕ, ◌<◌, ◌≤◌};
 ghost use Rattle.word.specs.Word.{low_at, high_at};
 ghost use Rattle.word.specs.Memory.{byte_in};
-ghost use Rattle.bus.specs.Addresses.{bus as busAt, put_byte, put_word};
+ghost use Rattle.bus.specs.Addresses.{bus as bus_at, put_byte, put_word};
 ghost use Rattle.memory.specs.Instructions.{stores, minus2, stored};
-ghost use Rattle.memory.specs.Code.{lowers as lowersFirst, stores_byte, over_of, over_as};
+ghost use Rattle.memory.specs.Code.{lowers as lowers_first, stores_byte, over_of, over_as};
 
 use bus::address;
 use bus::state::Board;
@@ -28,7 +28,7 @@ fn old_byte(ram: &[u8], a: u16) -> u8
 }
 
 fn store_word(b: Board, ram: &mut [u8], a: u16, w: u16) -> Written
-    ensures by_index { (g : List ℕ) → over_as g result ram.new ≡ over_of ram.old (stores g (put_word (busAt b ram.old) a w) 2 a) }
+    ensures state_after { (g : List ℕ) → over_as g result ram.new ≡ over_of ram.old (stores g (put_word (bus_at b ram.old) a w) 2 a) }
     ensures few { result.count ≤ 2 }
 {
     let old = halves::join(old_byte(ram, a), old_byte(ram, sums::plus(a, 1)));
@@ -42,7 +42,7 @@ fn store_word(b: Board, ram: &mut [u8], a: u16, w: u16) -> Written
 }
 
 fn store_byte(b: Board, ram: &mut [u8], a: u16, x: u8) -> Written
-    ensures by_index { (g : List ℕ) → over_as g result ram.new ≡ over_of ram.old (stores g (put_byte (busAt b ram.old) a x) 1 a) }
+    ensures state_after { (g : List ℕ) → over_as g result ram.new ≡ over_of ram.old (stores g (put_byte (bus_at b ram.old) a x) 1 a) }
     ensures few { result.count ≤ 2 }
 {
     let old = halves::join(old_byte(ram, a), 0);
@@ -66,7 +66,7 @@ fn sub2_if(regs: &mut [u16; 16], i: usize, loses: bool)
 }
 
 fn lowers(op: StoreOp) -> bool
-    ensures { result ≡ lowersFirst op }
+    ensures { result ≡ lowers_first op }
 {
     match op {
         StoreOp::Sto => false,
@@ -87,7 +87,7 @@ fn stores_byte(op: StoreOp) -> bool
 
 // One store of a word for sto and ddsto, as `load` has one load of a word.
 pub fn store(regs: &mut [u16; 16], b: Board, ram: &mut [u8], op: StoreOp, operands: u8) -> Written
-    ensures ram_after { over_as regs.new result ram.new ≡ over_of ram.old (stored op regs.old b ram.old (high_at 4 operands) (low_at 4 operands)) }
+    ensures state_after { over_as regs.new result ram.new ≡ over_of ram.old (stored op regs.old b ram.old (high_at 4 operands) (low_at 4 operands)) }
     ensures few { result.count ≤ 2 }
 {
     let d = (operands / 16) as usize;

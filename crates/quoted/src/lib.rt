@@ -2,7 +2,7 @@
 #![tactic(auto)]
 
 ghost use Rattle.std.specs.Prelude.{◌≡◌, ◌+◌, ◌≤◌, length};
-ghost use Rattle.quoted.specs.Quoted.{replaced as replacedBy, coded_as, character_as, turn_of, meant, chars_say, chars_leave};
+ghost use Rattle.quoted.specs.Quoted.{replaced as replaced_by, coded_as, character_as, turn_of, meant, chars_say, chars_leave};
 ghost use Rattle.quoted.specs.Code.{mode_after, chars_in, stored, whole, counted, written};
 ghost use Rattle.quoted.specs.declared.Mode.TheVariants.{Plain};
 ghost use Rattle.quoted.specs.declared.Number.TheVariants.{These};
@@ -40,7 +40,7 @@ enum Number {
 }
 
 fn replaced(b: u8) -> Reading
-    ensures { result ≡ replacedBy b }
+    ensures { result ≡ replaced_by b }
 {
     match b {
         48 => Reading::Char(0),

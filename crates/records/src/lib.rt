@@ -4,7 +4,7 @@
 ghost use Rattle.std.specs.Prelude.{◌≡◌};
 ghost use Rattle.bus.specs.State.{cpu, board};
 ghost use Rattle.bus.specs.declared.state.Stretch.{Stretch};
-ghost use Rattle.records.specs.Record.{marks as marksOf, part, words_of, record_with, undo_from, sound};
+ghost use Rattle.records.specs.Record.{marks as marks_of, part, words_of, record_with, undo_from, sound};
 ghost use Rattle.records.specs.Code.{undo_as};
 
 use bus::state::{Board, Cpu, Devices, Stretch};
@@ -21,7 +21,7 @@ pub struct Before {
 }
 
 fn marks(r: bool, t: bool, halted: bool) -> u16
-    ensures { result ≡ marksOf r t halted }
+    ensures { result ≡ marks_of r t halted }
 {
     choice::weigh(r, 1) + choice::weigh(t, 2) + choice::weigh(halted, 4)
 }

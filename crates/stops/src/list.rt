@@ -2,7 +2,7 @@
 ghost use Rattle.std.specs.Prelude.{◌+◌, ◌<◌, ◌≤◌, ◌≡◌, cond, [], ◌∷◌, ◌++◌, take, get_or};
 ghost use Rattle.entries.specs.Code.{bare};
 ghost use Rattle.entries.specs.Entries.{entry as entry_of, met_at, meets, place_of, marked};
-ghost use Rattle.stops.specs.Stops.{rows, list_of, gone as goneBy, kept, first_of};
+ghost use Rattle.stops.specs.Stops.{rows, list_of, gone as gone_by, kept, first_of};
 
 use entries::{Entry, Met, Points};
 
@@ -71,13 +71,13 @@ pub struct Gone {
 }
 
 fn is_gone(e: Entry, g: Gone) -> bool
-    ensures { result ≡ goneBy g e }
+    ensures { result ≡ gone_by g e }
 {
     (e.kind == g.kind) & (g.every | (e.address == g.address))
 }
 
 fn unless_gone(s: Stops, e: Entry, g: Gone) -> Stops
-    ensures result_value { s.points.count < 64 → list_of result ≡ list_of s ++ cond (goneBy g e) [] (e ∷ []) }
+    ensures result_value { s.points.count < 64 → list_of result ≡ list_of s ++ cond (gone_by g e) [] (e ∷ []) }
     ensures count_bound { result.points.count ≤ s.points.count + 1 }
 {
     if is_gone(e, g) {

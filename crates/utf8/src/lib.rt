@@ -51,7 +51,7 @@ fn high_after(lead: u8) -> u8
 // Whether a byte may stand after a lead byte of three or four bytes.
 fn may_follow(lead: u8, x: u8) -> bool
     ensures value { result ≡ between (low_after lead) (high_after lead) x }
-    ensures le_x { result ≡ true → 0x80 ≤ x }
+    ensures high_byte { result ≡ true → 0x80 ≤ x }
 {
     let low = low_after(lead);
     (low <= x) & (x <= high_after(lead))
@@ -60,7 +60,7 @@ fn may_follow(lead: u8, x: u8) -> bool
 // Whether a byte may stand after any other.
 fn goes_on(x: u8) -> bool
     ensures value { result ≡ between 0x80 0xbf x }
-    ensures le_x { result ≡ true → 0x80 ≤ x }
+    ensures high_byte { result ≡ true → 0x80 ≤ x }
 {
     (0x80 <= x) & (x <= 0xbf)
 }

@@ -7,7 +7,7 @@ ghost use Rattle.entries.specs.declared.Entry.{Entry};
 ghost use Rattle.entries.specs.Entries.{marked};
 ghost use Rattle.entries.specs.Code.{bare, points, points_of};
 ghost use Rattle.watched.specs.Answer.{list_check, or_else, told as told_of};
-ghost use Rattle.watched.specs.Code.{answered as answeredBy, refuse, stopped_as, answer_as, Watches};
+ghost use Rattle.watched.specs.Code.{answered as answered_by, refuse, stopped_as, answer_as, Watches};
 ghost use Rattle.watching.specs.Code.{Names};
 ghost use Rattle.watching.specs.Watched.{goes};
 
@@ -52,7 +52,7 @@ fn or_else(a: u8, b: u8) -> u8
 }
 
 fn answered(number: u8, told: Told, machine: Machine) -> Watched
-    ensures { result ≡ answeredBy number told machine }
+    ensures { result ≡ answered_by number told machine }
 {
     Watched {
         number,
@@ -89,7 +89,7 @@ fn run_columns(
     budget: u16,
 ) -> Stopped
     requires { length kinds.now ≡ length addresses.now }
-    ensures journal_value { goes budget true (bare addresses.now kinds.now) (world_of m ram.old journal.old)
+    ensures whole_run { goes budget true (bare addresses.now kinds.now) (world_of m ram.old journal.old)
         ≡ stopped_as result ram.new journal.new }
     ensures names { Names result.told (bare addresses.now kinds.now) }
 {

@@ -7,7 +7,7 @@ ghost use Rattle.bus.specs.State.{cpu};
 ghost use Rattle.recording.specs.Code.{standing};
 ghost use Rattle.entries.specs.Entries.{met_at, meets, place_of};
 ghost use Rattle.entries.specs.Code.{bare};
-ghost use Rattle.watching.specs.Watched.{goes, landed_byte, landed as landedOf};
+ghost use Rattle.watching.specs.Watched.{goes, landed_byte, landed as landed_of};
 ghost use Rattle.watching.specs.Code.{tells_of, caught_as, ended_as, sought_after, Names};
 
 use bus::address;
@@ -63,7 +63,7 @@ fn landed_byte(p: Stretch, ram: usize, a: u16) -> Met
 
 // What the stored bytes of a word meet.
 fn landed_word(p: Stretch, ram: usize, a: u16) -> Met
-    ensures { result ≡ landedOf p ram 2 a }
+    ensures { result ≡ landed_of p ram 2 a }
 {
     let second = sums::plus(a, 1);
     if address::drops(p, ram, a) {
@@ -141,7 +141,7 @@ pub fn advance(
     budget: u16,
 ) -> Ended
     requires { length kinds.now ≡ length addresses.now }
-    ensures journal_value { TellsAll table.now
+    ensures whole_run { TellsAll table.now
         → goes budget true (bare addresses.now kinds.now)
         (standing (cpu regs.old csrs.old board) place ram.old journal.old)
         ≡ ended_as result regs.new csrs.new ram.new journal.new }

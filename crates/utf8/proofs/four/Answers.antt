@@ -14,13 +14,13 @@ passed c =
     (u.0, u.1, t.1)
 
 pub with_six-v-requires : goal.with_six-v-requires
-with_six-v-requires c = (omega arith, c.may_follow.ensures.le_x (passed (goal.at.with_six-v-requires c).Then-may_follow-goes_on).0)
+with_six-v-requires c = (omega arith, c.may_follow.ensures.high_byte (passed (goal.at.with_six-v-requires c).Then-may_follow-goes_on).0)
 
 pub with_six-w-requires : goal.with_six-w-requires
-with_six-w-requires c = (omega (arith, c.with_six-v.ensures), c.goes_on.ensures.le_x (passed (goal.at.with_six-w-requires c).Then-may_follow-goes_on).1)
+with_six-w-requires c = (omega (arith, c.with_six-v.ensures), c.goes_on.ensures.high_byte (passed (goal.at.with_six-w-requires c).Then-may_follow-goes_on).1)
 
 pub with_six-requires : goal.with_six-requires
-with_six-requires c = (omega (arith, c.with_six-w.ensures, c.with_six-v.ensures), c.goes_on-2.ensures.le_x (passed (goal.at.with_six-requires c).Then-may_follow-goes_on).2)
+with_six-requires c = (omega (arith, c.with_six-w.ensures, c.with_six-v.ensures), c.goes_on-2.ensures.high_byte (passed (goal.at.with_six-requires c).Then-may_follow-goes_on).2)
 
 pub returns-then-may_follow-goes_on : goal.returns-then-may_follow-goes_on
 returns-then-may_follow-goes_on c = let t = passed (goal.at.returns-then-may_follow-goes_on c).Then-may_follow-goes_on in

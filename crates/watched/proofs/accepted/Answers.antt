@@ -14,4 +14,4 @@ returns c l e n = let a = c.args in
     let z : a.n - 0 ≡ a.n = omega arith in
     rw c.answered.ensures
     (ran a.m a.ram.now a.journal.now a.budget l (points a.n _ _) c.run_columns-s.result _ _ e n
-    (rw z at c.run_columns-s.ensures.journal_value) (rw z at c.run_columns-s.ensures.names))
+    (rw z at c.run_columns-s.ensures.whole_run) (rw z at c.run_columns-s.ensures.names))

@@ -2,4 +2,4 @@ use mathlib.Core.Path.{◌∙◌}
 use Rattle.watched.proofs.run_columns.Goals as goal
 
 pub returns : goal.returns
-returns c = record { journal_value = (rw c.place_of.ensures at (c.advance-e.ensures.journal_value c.table-table.ensures)) ∙ rw c.machine_of.ensures; names = c.advance-e.ensures.names }
+returns c = record { whole_run = (rw c.place_of.ensures at (c.advance-e.ensures.whole_run c.table-table.ensures)) ∙ rw c.machine_of.ensures; names = c.advance-e.ensures.names }

@@ -63,11 +63,11 @@ loop-halted-preserved c = let a = c.args.addresses.now in
     )
 
 pub returns-then-halted : goal.returns-then-halted
-returns-then-halted c = record { journal_value = (λ tells. rw (c.tells-told.ensures, c.met.ensures) (halts _ _ _ _ _ _ (c.loop-halted.invariant.2 tells) c.if-halted.true)); names = rw c.tells-told.ensures }
+returns-then-halted c = record { whole_run = (λ tells. rw (c.tells-told.ensures, c.met.ensures) (halts _ _ _ _ _ _ (c.loop-halted.invariant.2 tells) c.if-halted.true)); names = rw c.tells-told.ensures }
 
 pub returns-then-left-eq0 : goal.returns-then-left-eq0
 returns-then-left-eq0 c = record {
-  journal_value = (λ tells. rw (c.tells-told-then-left-eq0.ensures, c.met-then-left-eq0.ensures)
+  whole_run = (λ tells. rw (c.tells-told-then-left-eq0.ensures, c.met-then-left-eq0.ensures)
       (ends _ _ _ _ _ _ (c.loop-halted.invariant.2 tells) c.if-halted.false c.if-left-eq0.true));
   names = rw c.tells-told-then-left-eq0.ensures;
 }
@@ -80,7 +80,7 @@ returns-then-i-addresses c = let a = c.args.addresses.now in
     let e = rw c.met-reached.ensures at c.sought-i.ensures in
     let i = c.if-i-addresses.true in
     record {
-      journal_value = (λ tells. rw (c.tells-told-then-i-addresses.ensures, c.met-reached.ensures)
+      whole_run = (λ tells. rw (c.tells-told-then-i-addresses.ensures, c.met-reached.ensures)
           (breaks _ _ _ _ _ _ (c.loop-halted.invariant.2 tells) c.if-halted.false (omega (arith, c.if-left-eq0.false)) (sought-met s f a k c.requires _ e i)));
       names = rw (c.tells-told-then-i-addresses.ensures, c.met-reached.ensures) (sought-place s f a k c.requires _ e i);
     }
@@ -96,7 +96,7 @@ returns-then-k-addresses c = let a = c.args.addresses.now in
     let e = c.sought-k.ensures in
     let i = c.if-k-addresses.true in
     let met = stored_is p _ r.count r.first a k c.requires _ _ f e i in record {
-      journal_value = (λ tells. rw (c.caught-told.ensures, met)
+      whole_run = (λ tells. rw (c.caught-told.ensures, met)
           (catches _ _ _ _ _ _
           (c.loop-halted.invariant.2 tells) c.if-halted.false l c.loop-halted.invariant.0 went r _ _ _ _
           (c.recorded_step-r.ensures tells) _ (stored-met p _ r.count r.first a k c.requires _ _ f e i)));

@@ -20,8 +20,8 @@ returns-in-Move c = is_move c.args.regs.now c.args.csrs.now c.args.b c.args.ram.
 
 pub returns-in-Load : goal.returns-in-Load
 returns-in-Load c = is-load c.args.regs.now c.args.csrs.now c.args.b c.args.ram.now c.args.opcode (c.args.operands / 16)
-    (c.args.operands % 16) _ _ _ _ _ _ _ c.in-Load.is c.load-n.ensures.result_after c.settle-in-Load.ensures c.quiet-in-Load.ensures
+    (c.args.operands % 16) _ _ _ _ _ _ _ c.in-Load.is c.load-n.ensures.regs_after c.settle-in-Load.ensures c.quiet-in-Load.ensures
 
 pub returns-in-Store : goal.returns-in-Store
 returns-in-Store c = is_store c.args.regs.now c.args.csrs.now c.args.b c.args.ram.now c.args.opcode (c.args.operands / 16)
-    (c.args.operands % 16) _ _ _ _ _ _ _ c.in-Store.is c.store-w.ensures.ram_after c.settle-board.ensures
+    (c.args.operands % 16) _ _ _ _ _ _ _ c.in-Store.is c.store-w.ensures.state_after c.settle-board.ensures

@@ -20,4 +20,4 @@ pub in_base-requires-then-base-eq10 : goal.in_base-requires-then-base-eq10
 in_base-requires-then-base-eq10 c = (omega arith, omega arith)
 
 pub in_base-requires-2 : goal.in_base-requires-2
-in_base-requires-2 c = c.base_by-base.ensures.lower_bound
+in_base-requires-2 c = c.base_by-base.ensures.in_range
