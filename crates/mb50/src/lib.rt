@@ -1,4 +1,6 @@
 // The C boundary: the calls on 32 words of state, lent bytes and lent journal words, and the text of instructions. No rule of its own.
+#![tactic(auto)]
+
 ghost use Rattle.history.specs.Trace.{Call as CallOf, give, back as goes_back};
 ghost use Rattle.calls.specs.Inputs.{Input};
 ghost use Rattle.machine.specs.Asked.{asked};
