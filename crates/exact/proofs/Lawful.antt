@@ -11,7 +11,7 @@ use Rattle.word.specs.Word.{join_at, low_at}
 use Rattle.word.proofs.Width.{low_below, plus-below}
 use Rattle.word.proofs.Digits.{below}
 use Rattle.names.specs.Names.{F}
-use Rattle.bus.specs.State.{word, devices}
+use Rattle.bus.specs.State.{word}
 use Rattle.bus.specs.Good.{Within, GoodDevices, Good, Changed, none, one, two}
 use Rattle.bus.specs.declared.state.Cpu.{Cpu}
 use Rattle.bus.specs.declared.state.Stretch.{Stretch}

@@ -26,7 +26,6 @@ use Rattle.calls.specs.Calls.{W, world_of, said_by, replied, Keeps}
 use Rattle.calls.specs.Code.{Acts}
 use Rattle.calls.specs.declared.state.Machine.{Machine as MachineT}
 use Rattle.calls.specs.declared.state.Refusal.{Refusal}
-use Rattle.calls.specs.declared.state.Refusal.TheVariants as Refusal
 use Rattle.calls.specs.declared.state.Answer.{Answer as AnswerT}
 use Rattle.calls.specs.declared.state.Answer.TheVariants.{Accepted, Stepped, Ran, Refused}
 use Rattle.calls.specs.declared.state.Stop.{Stop}

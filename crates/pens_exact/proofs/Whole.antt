@@ -7,7 +7,6 @@ use native.Mathlib.Omega.{arith}
 use lib.Dec.{leb}
 use lib.ListN.{length}
 use Rattle.word.specs.Word.{low_at}
-use Rattle.bus.specs.State.{word}
 use Rattle.bus.specs.Good.{Within}
 use Rattle.bus.proofs.Kept.{picked}
 use Rattle.calls.specs.Calls.{W, check_of, stretch_of}
