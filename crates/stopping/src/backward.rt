@@ -9,7 +9,7 @@ use telling::causes::Stop;
 use telling::{inputs, outcomes};
 
 // One step back: the call's result, and the entry that it stops at.
-#[derive(Drop)]
+#[derive(Clone, Copy)]
 struct Turn {
     result: u64,
     stop: Stop,

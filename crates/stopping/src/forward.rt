@@ -48,6 +48,7 @@ fn is_at_break(s: Stops, state: &[u16; 32]) -> bool {
 
 // One run more. To the hand at the desk all are one run, of which the first step alone passes a break: so only the first run may start at one.
 fn one_more(
+    rt: &impl Print,
     before: Deed,
     is_first: bool,
     budget: u16,
@@ -66,12 +67,13 @@ fn one_more(
     if outcomes::is_last(o) | (0 < x.count) {
         return ended(o, s, x);
     }
-    deeds::progress(order, o.steps, state, ram);
+    deeds::progress(rt, order, o.steps, state, ram);
     unstopped(o, false)
 }
 
 // So many runs of so many steps at most, one after the other.
 pub fn executed(
+    rt: &impl Print,
     runs: usize,
     budget: u16,
     order: Order,
@@ -83,7 +85,7 @@ pub fn executed(
     let mut d = unstopped(outcomes::none(), false);
     let mut left = runs;
     while 0 < left {
-        d = one_more(d, left == runs, budget, order, s, state, ram, journal);
+        d = one_more(rt, d, left == runs, budget, order, s, state, ram, journal);
         if d.is_over {
             return d;
         }

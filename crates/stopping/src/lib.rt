@@ -1,4 +1,6 @@
 // execute by the breaks and watches, and rexecute: the calls, made one after the other.
+#![tactic(auto)]
+
 mod backward;
 pub mod dropped;
 mod forward;
@@ -14,7 +16,7 @@ use telling::causes::Stop;
 use telling::outcomes::Outcome;
 
 // What calls leave, the entry that stopped them, what the stop meets (the hits that rise by it), and whether no call is to follow.
-#[derive(Drop)]
+#[derive(Clone, Copy)]
 pub struct Deed {
     pub outcome: Outcome,
     pub stop: Stop,
@@ -46,6 +48,7 @@ pub fn is_listed(order: Order, s: Stops) -> bool {
 
 // The calls of an order that goes by the list.
 pub fn made(
+    rt: &impl Print,
     order: Order,
     s: Stops,
     state: &mut [u16; 32],
@@ -53,8 +56,8 @@ pub fn made(
     journal: &mut [u16],
 ) -> Deed {
     match order {
-        Order::Run(n) => forward::executed(1, n, order, s, state, ram, journal),
-        Order::RunOn => forward::executed(RUNS, 65535, order, s, state, ram, journal),
+        Order::Run(n) => forward::executed(rt, 1, n, order, s, state, ram, journal),
+        Order::RunOn => forward::executed(rt, RUNS, 65535, order, s, state, ram, journal),
         Order::RunBack(n) => backward::returned(n, s, state, ram, journal),
         _ => backward::returned(65535, s, state, ram, journal),
     }
