@@ -77,6 +77,7 @@ fn is_step(call: Call) -> bool {
 
 // The calls made one after the other, until one is refused or the machine is halted.
 pub fn carried(
+    rt: &impl Print,
     order: Order,
     room: &[u8],
     state: &mut [u16; 32],
@@ -94,7 +95,7 @@ pub fn carried(
         if outcomes::is_last(o) {
             return o;
         }
-        deeds::progress(order, o.steps, state, ram);
+        deeds::progress(rt, order, o.steps, state, ram);
         i += 1;
     }
     o

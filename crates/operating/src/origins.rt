@@ -58,6 +58,7 @@ fn between(before: &[u16; 32], after: &[u16; 32], copy: &mut [u8]) -> Input {
 
 // What is found is told: what changed, by which input, how long ago. The copy stands as before that input.
 fn tell(
+    rt: &impl Print,
     order: Order,
     records: u16,
     value: u16,
@@ -65,14 +66,15 @@ fn tell(
     after: &[u16; 32],
     copy: &mut [u8],
 ) {
-    findings::tell_change(order, findings::value_in(order, before, copy), value);
+    findings::tell_change(rt, order, findings::value_in(order, before, copy), value);
     let pc = parts::pc(before);
     let w = status::word_at(before, copy, pc);
-    findings::tell_by(between(before, after, copy), w, pc, records);
+    findings::tell_by(rt, between(before, after, copy), w, pc, records);
 }
 
 // Found in the copy and told: the steps back to just before the input that changed what is asked about; where it is not found, nothing.
 fn traced(
+    rt: &impl Print,
     order: Order,
     state: &[u16; 32],
     value: u16,
@@ -83,15 +85,21 @@ fn traced(
     let mut after = *state;
     let n = searched(order, &mut before, &mut after, copy, journal);
     if n == 0 {
-        findings::tell_none(order, value, parts::held(state));
+        findings::tell_none(rt, order, value, parts::held(state));
         return Order::Nothing;
     }
-    tell(order, n, value, &before, &after, copy);
+    tell(rt, order, n, value, &before, &after, copy);
     Order::Back(n)
 }
 
 // An order for what origin asks, found and told; any other order as it is. No call is made but in a copy of state and memory.
-pub fn resolved(order: Order, state: &[u16; 32], ram: &[u8], journal: &mut [u16]) -> Order {
+pub fn resolved(
+    rt: &impl Print,
+    order: Order,
+    state: &[u16; 32],
+    ram: &[u8],
+    journal: &mut [u16],
+) -> Order {
     match order {
         Order::OriginOfByte(a) => {}
         Order::OriginOfPart(n) => {}
@@ -103,5 +111,5 @@ pub fn resolved(order: Order, state: &[u16; 32], ram: &[u8], journal: &mut [u16]
     }
     let mut copy = copies::of(ram);
     let value = findings::value_in(order, state, ram);
-    traced(order, state, value, &mut copy[0..n], journal)
+    traced(rt, order, state, value, &mut copy[0..n], journal)
 }
