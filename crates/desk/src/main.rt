@@ -1,4 +1,6 @@
 // The desk: MB50's debugger on the laptop, over the proved machine. It reads commands from standard input, a line each.
+#![tactic(auto)]
+
 ghost use Rattle.std.specs.Prelude.{◌≡◌, length};
 
 use bus::state::Stretch;
@@ -25,6 +27,7 @@ fn journal_room() -> [u16; 32768]
 
 // The command of a row's letter, of which the line goes on at a place. A letter has one arm, in `orders` or in `sitting`, and goes through the other as it came.
 fn obey(
+    rt: &HostRuntime,
     letter: u8,
     d: Desk,
     line: &[u8],
@@ -34,13 +37,14 @@ fn obey(
     journal: &mut [u16],
 ) -> Desk {
     let s = d.stops;
-    let after = operating::operate(letter, line, at, s, machine, ram, journal);
+    let after = operating::operate(rt, letter, line, at, s, machine, ram, journal);
     let e = state::with_stops(d, after);
-    own::tend(letter, e, line, at, machine, ram, journal.len() / 32)
+    own::tend(rt, letter, e, line, at, machine, ram, journal.len() / 32)
 }
 
 // A line: a command, or nothing, or a remark that begins with #.
 fn perform(
+    rt: &HostRuntime,
     d: Desk,
     line: &[u8],
     machine: &mut [u16; 32],
@@ -52,24 +56,32 @@ fn perform(
     if (name.len() == 0) | (words::byte_at(name, 0) == b'#') {
         return d;
     }
-    let f = commands::find(name);
+    let f = commands::find(rt, name);
     if let Found::Is(letter) = f {
-        return obey(letter, d, line, p.to, machine, ram, journal);
+        return obey(rt, letter, d, line, p.to, machine, ram, journal);
     }
-    commands::unfound(f, name);
+    commands::unfound(rt, f, name);
     d
 }
 
 // The next line from where commands come from now, done.
-fn turn(d: Desk, machine: &mut [u16; 32], ram: &mut [u8], journal: &mut [u16]) -> Desk {
+fn turn(
+    rt: &HostRuntime,
+    d: Desk,
+    machine: &mut [u16; 32],
+    ram: &mut [u8],
+    journal: &mut [u16],
+) -> Desk {
     let mut room = io::buffer();
-    let l = input::next(d, &mut room);
+    let mut before = d;
+    let l = input::next(rt, &mut before, &mut room);
     let Line::Is(n) = l else {
-        return input::unread(d, l);
+        return input::unread(rt, before, l);
     };
     let line = words::front(&room, n);
-    let e = perform(d, line, machine, ram, journal);
-    state::log(d, e, line);
+    let mark = state::marked(&before);
+    let mut e = perform(rt, before, line, machine, ram, journal);
+    state::log(mark, &mut e, line);
     e
 }
 
@@ -83,12 +95,12 @@ fn started(s: Settings) -> [u16; 32] {
 }
 
 // A proved loop has to end, and nothing says that the input does. So the loop counts its turns down, from a number that no one uses up.
-fn session(s: Settings, ram: &mut [u8], journal: &mut [u16]) {
-    let mut d = state::opened();
+fn session(rt: &HostRuntime, s: Settings, ram: &mut [u8], journal: &mut [u16]) {
+    let mut d = state::opened(rt);
     let mut machine = started(s);
     let mut turns = u64::MAX;
     while turns > 0 {
-        d = turn(d, &mut machine, ram, journal);
+        d = turn(rt, d, &mut machine, ram, journal);
         if d.is_over {
             return;
         }
@@ -97,16 +109,16 @@ fn session(s: Settings, ram: &mut [u8], journal: &mut [u16]) {
 }
 
 // The memory at the start is the image, or zeros.
-fn begin(s: Settings, ram: &mut [u8], journal: &mut [u16]) {
-    if images::start_image(s.image, ram) {
-        arguments::tell_stretch(s);
-        session(s, ram, journal);
+fn begin(rt: &HostRuntime, s: Settings, ram: &mut [u8], journal: &mut [u16]) {
+    if images::start_image(rt, s.image, ram) {
+        arguments::tell_stretch(rt, s);
+        session(rt, s, ram, journal);
     }
 }
 
-fn main() {
-    files::hold_standard();
-    let s = arguments::read();
+fn main(rt: HostRuntime) {
+    files::hold_standard(&rt);
+    let s = arguments::read(&rt);
     let bytes = s.ram;
     let words = s.words;
     if !s.is_good {
@@ -120,5 +132,5 @@ fn main() {
     }
     let mut ram = ram_room();
     let mut journal = journal_room();
-    begin(s, &mut ram[0..bytes], &mut journal[0..words]);
+    begin(&rt, s, &mut ram[0..bytes], &mut journal[0..words]);
 }
