@@ -11,7 +11,7 @@ const PENS: u64 = 16;
 
 const PAUSE: u64 = 100000;
 
-// The seconds after which pens a second are told: the clock has whole seconds only.
+// The seconds after which pens a second are told: only whole seconds are counted.
 const RATED: u64 = 10;
 
 // The clock on the wall; 0 where it cannot be read.

@@ -230,9 +230,13 @@ fn run<'a>(
         &mut row,
         &mut refused,
     );
-    let t = l.totals;
+    told(rt, l.totals, &refused);
+}
+
+// What the list came to, at its end.
+fn told(rt: &HostRuntime, t: Totals, refused: &[u8]) {
     progress::clear(rt, t);
-    totals::tell_all(rt, t, &refused);
+    totals::tell_all(rt, t, refused);
 }
 
 // The lists are read, each whole, before anything runs.
