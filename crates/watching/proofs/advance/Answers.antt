@@ -51,12 +51,13 @@ loop-halted-preserved c = let a = c.args.addresses.now in
     omega (arith, c.loop-halted.invariant.1, c.if-left-eq0.false, c.recorded_step-r.type_inv)
     in
     let n : c.loop-halted.left - 1 ≤ c.args.budget = omega (arith, c.loop-halted.invariant.0) in
+    let stands = c.if-halted.false in
     let went = sought-none (eqb c.loop-halted.left c.args.budget) (meets (met_at 1 1 (word c.loop-halted.regs PC))) a k c.requires _ (rw c.met-reached.ensures at c.sought-i.ensures) c.if-i-addresses.false in
     let unmet = stored-none c.args.board.stretch _ r.count r.first a k c.requires _ _ c.landed-stored.ensures c.sought-k.ensures c.if-k-addresses.false in (
       n,
       b,
       (λ tells. goes_on _ _ _ _ _ _
-          (c.loop-halted.invariant.2 tells) c.if-halted.false l c.loop-halted.invariant.0 went r _ _ _ _
+          (c.loop-halted.invariant.2 tells) stands l c.loop-halted.invariant.0 went r _ _ _ _
           (c.recorded_step-r.ensures tells) unmet),
       c.recorded_step-r.auto.ram ∙ c.loop-halted.invariant.3,
       c.recorded_step-r.auto.journal ∙ c.loop-halted.invariant.4,
@@ -89,6 +90,7 @@ pub returns-then-k-addresses : goal.returns-then-k-addresses
 returns-then-k-addresses c = let a = c.args.addresses.now in
     let k = c.args.kinds.now in
     let r = c.recorded_step-r.result in
+    let stood = c.if-halted.false in
     let l : 0 < c.loop-halted.left = omega (arith, c.if-left-eq0.false) in
     let went = sought-none (eqb c.loop-halted.left c.args.budget) (meets (met_at 1 1 (word c.loop-halted.regs PC))) a k c.requires _ (rw c.met-reached.ensures at c.sought-i.ensures) c.if-i-addresses.false in
     let p = c.args.board.stretch in
@@ -98,7 +100,7 @@ returns-then-k-addresses c = let a = c.args.addresses.now in
     let met = stored_is p _ r.count r.first a k c.requires _ _ f e i in record {
       whole_run = (λ tells. rw (c.caught-told.ensures, met)
           (catches _ _ _ _ _ _
-          (c.loop-halted.invariant.2 tells) c.if-halted.false l c.loop-halted.invariant.0 went r _ _ _ _
+          (c.loop-halted.invariant.2 tells) stood l c.loop-halted.invariant.0 went r _ _ _ _
           (c.recorded_step-r.ensures tells) _ (stored-met p _ r.count r.first a k c.requires _ _ f e i)));
       names = rw c.caught-told.ensures
           (caught-names (c.args.budget - (c.loop-halted.left - 1)) (c.loop-halted.bus + r.bus) _ c.landed-stored.result _ r.board.halted
