@@ -1,78 +1,45 @@
 // Letters, digits and blanks.
 #![tactic(auto)]
 
-ghost use Rattle.std.specs.Prelude.{◌≡◌, ◌≤◌};
+ghost use Rattle.std.specs.Prelude.{◌≡◌, ◌≤◌, IfSome};
 ghost use Rattle.letters.specs.Letters.{lower as lower_of, blank, wordy, hex_value};
 
 // A letter as a small one; any other byte as it is.
+#[tactic(auto, unfolding(crate::specs::Letters::lower))]
 pub fn lower(b: u8) -> u8
     ensures { result ≡ lower_of b }
 {
-    if b < 65 {
-        return b;
+    match b {
+        b'A'..=b'Z' => b + 32,
+        _ => b,
     }
-    if 90 < b {
-        return b;
-    }
-    b + 32
 }
 
+#[tactic(auto, unfolding(crate::specs::Letters::blank))]
 pub fn is_blank(b: u8) -> bool
     ensures { result ≡ blank b }
 {
-    if b == 9 {
-        return true;
-    }
-    b == 32
+    matches!(b, b'\t' | b' ')
 }
 
-// By the ends of the stretches of letters, digits and the underscore; small letters first, since most bytes of words are.
+// Small letters first, since most bytes of words are.
+#[tactic(auto, unfolding(crate::specs::Letters::wordy))]
 pub fn is_wordy(b: u8) -> bool
     ensures { result ≡ wordy b }
 {
-    if 122 < b {
-        return false;
-    }
-    if 96 < b {
-        return true;
-    }
-    if b < 48 {
-        return false;
-    }
-    if b < 58 {
-        return true;
-    }
-    if b < 65 {
-        return false;
-    }
-    if b < 91 {
-        return true;
-    }
-    b == 95
+    matches!(b, b'a'..=b'z' | b'A'..=b'Z' | b'0'..=b'9' | b'_')
 }
 
-// The value of a hexadecimal digit of either case; 16 where it is none.
-pub fn hex_value(b: u8) -> u8
+// The value of a hexadecimal digit of either case; None where it is none.
+#[tactic(auto, unfolding(crate::specs::Letters::hex_value))]
+pub fn hex_value(b: u8) -> Option<u8>
     ensures value { result ≡ hex_value b }
-    ensures upper_bound { result ≤ 16 }
+    ensures upper_bound { IfSome result (λ d. d ≤ 15) }
 {
-    if b < 48 {
-        return 16;
+    match b {
+        b'0'..=b'9' => Some(b - b'0'),
+        b'A'..=b'F' => Some(b - b'A' + 10),
+        b'a'..=b'f' => Some(b - b'a' + 10),
+        _ => None,
     }
-    if b < 58 {
-        return b - 48;
-    }
-    if b < 65 {
-        return 16;
-    }
-    if b < 71 {
-        return b - 55;
-    }
-    if b < 97 {
-        return 16;
-    }
-    if b < 103 {
-        return b - 87;
-    }
-    16
 }
