@@ -1,25 +1,57 @@
 -- Scanning a line from a place: runs of bytes, and the stages that are left.
 use mathlib.Core.Path.{◌≡◌, refl, sym, ap, ◌∙◌}
-use mathlib.Core.Bool.{Bool, true, false, cond}
+use mathlib.Core.Bool.{Bool, true, false, cond, not}
 use mathlib.Core.List.{List, [], ◌∷◌}
-use Prim.Native.Nat.{ℕ, zero, suc, ◌+◌, ◌-◌, ◌<◌, ◌≤◌}
-use native.Mathlib.Numerals.{add-one}
+use mathlib.Core.Logic.{⊎_elim}
+use Prim.Native.Nat.{ℕ, ◌+◌, ◌-◌, ◌<◌, ◌≤◌}
 use native.Mathlib.Omega.{arith}
-use borrow.Author.Tests.{eq-eqb, ne_eqb}
-use lib.ListN.{length, get_or, take, drop, drop_of_length-le}
+use borrow.Author.Tests.{ne_eqb, eqb-true, lt-ltb}
+use lib.ListN.{length, take, drop, drop_of_length-le, length-drop}
 use lib.Seq.{drop-cons, drop-drop}
-use Rattle.grammar.specs.Line.{run, rest, empty, blank, wordy, Line, words, no_line, at_mnemonic, at_first, at_second}
-use Rattle.grammar.specs.Code.{part}
+use Rattle.std.specs.Prelude.{Option, Some, None, unwrap_or, position, nat_eq, ◌&&◌}
+use Rattle.std.specs.List.{position_or_len, starts_with}
+use Rattle.std.proofs.Common.{ltb}
+use Rattle.std.proofs.lemmas.List.{take_all}
+use Rattle.std.proofs.lemmas.Bool.{cases_lt}
+use Rattle.grammar.specs.Line.{run, rest, empty, blank, wordy, words, no_line, at_mnemonic, at_first, at_comma, at_second, line_of}
+use Rattle.grammar.specs.Code.{part, IsRead}
+use Rattle.names.proofs.Keyed.{left}
+use Rattle.grammar.proofs.Bools.{clash}
+use Rattle.grammar.specs.declared.line.Part.{Part}
 
-module _ (f : ℕ → Bool) (l : List ℕ) (i : ℕ) where
-  pub run_more : i < length l → f (get_or l i 0) ≡ true → length (run f (drop i l)) ≡ suc (length (run f (drop (i + 1) l)))
-  run_more h e = rw (drop-cons l i 0 h, e, add-one)
+-- a run is as long as the first byte that fails is far
+run_len : (f : ℕ → Bool) (s : List ℕ) → position_or_len (λ b. not (f b)) s ≡ length (run f s)
+run_len f [] = refl
+run_len f (b ∷ s) = go (run_len f s) (f b)
+  where
+    go : position_or_len (λ b. not (f b)) s ≡ length (run f s) → (x : Bool) → cond (not (not x)) (1 + position_or_len (λ b. not (f b)) s) 0 ≡ length (cond x (b ∷ run f s) [])
+    go h true = ap (λ (n : ℕ). 1 + n) h ∙ omega arith
+    go h false = refl
 
-  pub run_none : i < length l → f (get_or l i 0) ≡ false → run f (drop i l) ≡ []
-  run_none h e = rw (drop-cons l i 0 h, e)
+pub run_within : (f : ℕ → Bool) (s : List ℕ) → length (run f s) ≤ length s
+run_within f [] = omega arith
+run_within f (b ∷ s) = go (run_within f s) (f b)
+  where
+    go : length (run f s) ≤ length s → (x : Bool) → length (cond x (b ∷ run f s) []) ≤ length (b ∷ s)
+    go h true = omega arith
+    go h false = omega arith
 
-  pub run_end : length l ≤ i → run f (drop i l) ≡ []
-  run_end h = rw (drop_of_length-le l h)
+all_or : (n : ℕ) (b : Bool) → unwrap_or (cond b (Some n) None) n ≡ n
+all_or n true = refl
+all_or n false = refl
+
+found_or : (n m : ℕ) → n ≤ m → unwrap_or (cond (ltb n m) (Some n) None) m ≡ n
+found_or n m h = ⊎_elim (λ (x : n < m). rw (lt-ltb n m x)) (λ (x : m ≤ n). let e : m ≡ n = omega arith in rw e (all_or n (ltb n n))) (cases_lt n m)
+
+pub counted : (f : ℕ → Bool) (s : List ℕ) (r : Option ℕ) → r ≡ position (λ b. not (f b)) s → unwrap_or r (length s) ≡ length (run f s)
+counted f s r e = rw (e, run_len f s) (found_or (length (run f s)) (length s) (run_within f s))
+
+-- what stands from a place on, as a slice has it
+pub tail : (l : List ℕ) (i : ℕ) → take (length l - i) (drop i l) ≡ drop i l
+tail l i = take_all (length l - i) (drop i l) (omega (arith, length-drop i l))
+
+pub run_inside : (f : ℕ → Bool) (l : List ℕ) (i : ℕ) → i ≤ length l → i + length (run f (drop i l)) ≤ length l
+run_inside f l i h = omega (arith, run_within f (drop i l), length-drop i l)
 
 -- ---- from places to parts
 
@@ -40,7 +72,7 @@ drop-run f (b ∷ s) = go (drop-run f s) (f b)
     go h false = refl
 
 module _ (f : ℕ → Bool) (l : List ℕ) (i j : ℕ) (e : j ≡ i + length (run f (drop i l))) where
-  part-run : part l i j ≡ run f (drop i l)
+  part-run : take (j - i) (drop i l) ≡ run f (drop i l)
   part-run =
       let n : j - i ≡ length (run f (drop i l)) = omega arith in
       rw n (take-run f (drop i l))
@@ -48,7 +80,7 @@ module _ (f : ℕ → Bool) (l : List ℕ) (i j : ℕ) (e : j ≡ i + length (ru
   pub drop_past : drop j l ≡ rest f (drop i l)
   drop_past = rw (e, ← drop-drop (length (run f (drop i l))) i l) (drop-run f (drop i l))
 
-none_of : (w : List ℕ) → length w ≡ 0 → w ≡ []
+pub none_of : (w : List ℕ) → length w ≡ 0 → w ≡ []
 none_of [] e = refl
 none_of (b ∷ w) e = absurd (omega arith)
 
@@ -56,67 +88,65 @@ some_of : (w : List ℕ) → (length w ≡ 0 → ⊥) → empty w ≡ false
 some_of [] h = absurd (h refl)
 some_of (b ∷ w) h = refl
 
--- ---- the line, from the word of a number on
+-- ---- a word that has been read, and the blanks after it: what each stage makes of them
 
-abbrev pub stage : ℕ → List ℕ → List ℕ → List ℕ → Line
-stage zero m d s = at_mnemonic s
-stage (suc zero) m d s = at_first m s
-stage (suc (suc k)) m d s = at_second m d s
+pub no_mnemonic : (s : List ℕ) → run wordy s ≡ [] → at_mnemonic s ≡ no_line
+no_mnemonic s e = rw e
 
-pub stage-none : (k : ℕ) (m d s : List ℕ) → run wordy s ≡ [] → stage k m d s ≡ no_line
-stage-none zero m d s e = rw e
-stage-none (suc zero) m d s e = rw e
-stage-none (suc (suc k)) m d s e = rw e
+pub no_first : (m s : List ℕ) → run wordy s ≡ [] → at_first m s ≡ no_line
+no_first m s e = rw e
 
-cond_same : (b : Bool) (x : Line) → cond b x x ≡ x
-cond_same true x = refl
-cond_same false x = refl
+pub no_second : (m d s : List ℕ) → run wordy s ≡ [] → at_second m d s ≡ no_line
+no_second m d s e = rw e
 
-pub stage-end : (k : ℕ) (m d s : List ℕ) → k < 2 → rest wordy s ≡ [] → stage k m d s ≡ no_line
-stage-end zero m d s h e = rw e (cond_same (empty (run wordy s)) no_line)
-stage-end (suc zero) m d s h e = rw e (cond_same (empty (run wordy s)) no_line)
-stage-end (suc (suc k)) m d s h e = absurd (omega arith)
+pub line_at : (l : List ℕ) (at : ℕ) → at ≡ 0 + length (run blank (drop 0 l)) → at_mnemonic (drop at l) ≡ line_of l
+unfolding line_of
+line_at l at e = ap at_mnemonic (drop_past blank l 0 at e)
 
--- ---- a word that has ended, and the blanks after it: what each stage makes of them
+-- ---- the comma
 
-pub record Ended (l : List ℕ) (at stop next : ℕ) : Type 0 where
-  pub long : at < stop
-  pub word : stop ≡ at + length (run wordy (drop at l))
-  pub blanks : next ≡ stop + length (run blank (drop stop l))
+same_byte : (b : ℕ) → (nat_eq 44 b && true) ≡ true → b ≡ 44
+same_byte b e = sym (eqb-true 44 b (left (nat_eq 44 b) true e))
 
-module _ (l : List ℕ) (at stop next : ℕ) (e : Ended l at stop next) where
+pub comma_here : (s : List ℕ) → starts_with nat_eq s (44 ∷ []) ≡ true → s ≡ 44 ∷ drop 1 s
+comma_here [] e = clash e
+comma_here (b ∷ t) e = ap (λ (x : ℕ). x ∷ t) (same_byte b e)
+
+no_comma : (m d s : List ℕ) → starts_with nat_eq s (44 ∷ []) ≡ false → at_comma m d s ≡ no_line
+no_comma m d [] e = refl
+no_comma m d (b ∷ t) e = rw (ne_eqb b 44 (λ (h : b ≡ 44). clash (sym (rw h at e))))
+
+module _ (l : List ℕ) (at : ℕ) (p : Part) (next : ℕ) (e : IsRead l at p next) where
   some : empty (run wordy (drop at l)) ≡ false
-  some = some_of (run wordy (drop at l)) (λ z. omega (arith, e.long, e.word, z))
+  some = some_of (run wordy (drop at l)) (λ z. omega (arith, e.some, e.word, z))
 
-  past : drop stop l ≡ rest wordy (drop at l)
-  past = drop_past wordy l at stop e.word
+  past : drop p.to l ≡ rest wordy (drop at l)
+  past = drop_past wordy l at p.to e.word
 
-  gone : drop next l ≡ rest blank (drop stop l)
-  gone = drop_past blank l stop next e.blanks
+  gone : drop next l ≡ rest blank (drop p.to l)
+  gone = drop_past blank l p.to next e.blanks
 
-  name : part l at stop ≡ run wordy (drop at l)
-  name = part-run wordy l at stop e.word
+  name : part l p ≡ run wordy (drop at l)
+  name = rw e.begins (part-run wordy l at p.to e.word)
 
-  pub mnemonic-ends : next ≡ stop → at_mnemonic (drop at l) ≡ no_line
-  mnemonic-ends h = rw (some, ← past, none_of (run blank (drop stop l)) (omega (arith, e.blanks)))
+  pub mnemonic-ends : next ≡ p.to → at_mnemonic (drop at l) ≡ no_line
+  mnemonic-ends h = rw (some, ← past, none_of (run blank (drop p.to l)) (omega (arith, e.blanks)))
 
-  pub mnemonic-gap : (next ≡ stop → ⊥) → at_mnemonic (drop at l) ≡ at_first (part l at stop) (drop next l)
-  mnemonic-gap h = rw (some, ← past, some_of (run blank (drop stop l)) (λ z. h (omega (arith, e.blanks, z))), gone, name)
+  pub mnemonic-gap : (next ≡ p.to → ⊥) → at_mnemonic (drop at l) ≡ at_first (part l p) (drop next l)
+  mnemonic-gap h = rw (some, ← past, some_of (run blank (drop p.to l)) (λ z. h (omega (arith, e.blanks, z))), gone, name)
 
-  pub first_ends : (m : List ℕ) → length l ≤ next → at_first m (drop at l) ≡ no_line
-  first_ends m h = rw (some, ← past, ← gone, drop_of_length-le l h)
+  pub first-other : (m : List ℕ) → starts_with nat_eq (drop next l) (44 ∷ []) ≡ false → at_first m (drop at l) ≡ no_line
+  first-other m n = rw (some, ← past, ← gone) (no_comma m (run wordy (drop at l)) (drop next l) n)
 
-  pub first-other : (m : List ℕ) → next < length l → (get_or l next 0 ≡ 44 → ⊥) → at_first m (drop at l) ≡ no_line
-  first-other m h n = rw (some, ← past, ← gone, drop-cons l next 0 h, ne_eqb (get_or l next 0) 44 n)
-
-  pub first-comma : (m : List ℕ) (t : ℕ) → next < length l → get_or l next 0 ≡ 44 → t ≡ next + 1 + length (run blank (drop (next + 1) l))
-      → at_first m (drop at l) ≡ at_second m (part l at stop) (drop t l)
-  first-comma m t h k b =
-      let c = drop-cons l next 0 h ∙ ap (λ (i : ℕ). get_or l next 0 ∷ drop i l) (sym (add-one next)) in
-      rw (some, ← past, ← gone, c, eq-eqb (get_or l next 0) 44 k, drop_past blank l (next + 1) t b, name)
+  pub first-comma : (m : List ℕ) (t : ℕ) → starts_with nat_eq (drop next l) (44 ∷ []) ≡ true → t ≡ next + 1 + length (run blank (drop (next + 1) l))
+      → at_first m (drop at l) ≡ at_second m (part l p) (drop t l)
+  first-comma m t k b =
+      let c = comma_here (drop next l) k in
+      let d : drop (next + 1) l ≡ drop 1 (drop next l) = sym (drop-drop 1 next l) in
+      rw (some, ← past, ← gone, c, ← d, drop_past blank l (next + 1) t b, name)
 
   pub second_more : (m d : List ℕ) → next < length l → at_second m d (drop at l) ≡ no_line
   second_more m d h = rw (some, ← past, ← gone, drop-cons l next 0 h)
 
-  pub second-done : (m d : List ℕ) → length l ≤ next → at_second m d (drop at l) ≡ words m d (part l at stop)
+  pub second-done : (m d : List ℕ) → length l ≤ next → at_second m d (drop at l) ≡ words m d (part l p)
   second-done m d h = rw (some, ← past, ← gone, drop_of_length-le l h, name)

@@ -1,20 +1,36 @@
 // The words of a line.
 ghost use Rattle.std.specs.Prelude.{◌≡◌, ◌+◌, ◌≤◌, length, drop};
 ghost use Rattle.grammar.specs.Line.{blank, wordy, run, line_of};
-ghost use Rattle.grammar.specs.Code.{split_as, within};
+ghost use Rattle.grammar.specs.Code.{split_as, within, ReadAs};
 
-// The words of a line: from a to b, from c to d, from e to f.
+// The bytes of a line from one place up to another.
 #[derive(Clone, Copy)]
-pub enum Split {
-    Words {
-        a: usize,
-        b: usize,
-        c: usize,
-        d: usize,
-        e: usize,
-        f: usize,
-    },
-    NoWords,
+pub struct Part {
+    pub from: usize,
+    pub to: usize,
+}
+
+// The three words of an instruction's line, by their places.
+#[derive(Clone, Copy)]
+pub struct Words {
+    pub mnemonic: Part,
+    pub first: Part,
+    pub second: Part,
+}
+
+// How many blanks a text begins with.
+fn count_blanks(text: &[u8]) -> usize
+    ensures { result ≡ length (run blank text.now) }
+{
+    text.iter().position(|&b| !letters::is_blank(b)).unwrap_or(text.len())
+}
+
+// How many letters, digits and underscores a text begins with. One function with the test as a parameter would be no plainer than these two: its clause
+// would have to say what the test computes, of any test.
+fn count_wordy(text: &[u8]) -> usize
+    ensures { result ≡ length (run wordy text.now) }
+{
+    text.iter().position(|&b| !letters::is_wordy(b)).unwrap_or(text.len())
 }
 
 // Past the blanks that stand at `at`.
@@ -22,82 +38,41 @@ fn skip_blanks(line: &[u8], at: usize) -> usize
     requires { at ≤ length line.now }
     ensures { (result ≡ at + length (run blank (drop at line.now))) × (result ≤ length line.now) }
 {
-    let mut i = at;
-    while i < line.len() {
-        if !letters::is_blank(line[i]) {
-            return i;
-        }
-        i += 1;
+    at + count_blanks(&line[at..])
+}
+
+// The word that stands at `from`, and the place past the blanks after it.
+fn read_word(line: &[u8], from: usize) -> Option<(Part, usize)>
+    requires { from ≤ length line.now }
+    ensures { ReadAs line.now from result }
+{
+    let to = from + count_wordy(&line[from..]);
+    if to == from {
+        return None;
     }
-    i
+    Some((Part { from, to }, skip_blanks(line, to)))
 }
 
 // The words of a line. Only the last may end it; any byte that the grammar does not ask for ends the match.
-pub fn match_line(line: &[u8]) -> Split
+pub fn match_line(line: &[u8]) -> Option<Words>
     ensures result_value { split_as line.now result ≡ line_of line.now }
     ensures within { within result (length line.now) }
 {
-    let mut a: usize = 0;
-    let mut b: usize = 0;
-    let mut c: usize = 0;
-    let mut d: usize = 0;
-    let mut word: usize = 0;
-    let mut at = skip_blanks(line, 0);
-    'line: loop {
-        let from = at;
-        if line.len() <= at {
-            break Split::NoWords;
-        }
-        if !letters::is_wordy(line[at]) {
-            break Split::NoWords;
-        }
-        at += 1;
-        'word: loop {
-            if line.len() <= at {
-                if word < 2 {
-                    break 'line Split::NoWords;
-                }
-                break;
-            }
-            if !letters::is_wordy(line[at]) {
-                break;
-            }
-            at += 1;
-        }
-        let next = skip_blanks(line, at);
-        if word == 0 {
-            if next == at {
-                break Split::NoWords;
-            }
-            a = from;
-            b = at;
-            at = next;
-            word = 1;
-            continue;
-        }
-        if word == 1 {
-            if line.len() <= next {
-                break Split::NoWords;
-            }
-            if line[next] != 44 {
-                break Split::NoWords;
-            }
-            c = from;
-            d = at;
-            at = skip_blanks(line, next + 1);
-            word = 2;
-            continue;
-        }
-        if next < line.len() {
-            break Split::NoWords;
-        }
-        break Split::Words {
-            a,
-            b,
-            c,
-            d,
-            e: from,
-            f: at,
-        };
+    let (mnemonic, at) = read_word(line, skip_blanks(line, 0))?;
+    if at == mnemonic.to {
+        return None;
     }
+    let (first, comma) = read_word(line, at)?;
+    if !line[comma..].starts_with(b",") {
+        return None;
+    }
+    let (second, end) = read_word(line, skip_blanks(line, comma + 1))?;
+    if end < line.len() {
+        return None;
+    }
+    Some(Words {
+        mnemonic,
+        first,
+        second,
+    })
 }

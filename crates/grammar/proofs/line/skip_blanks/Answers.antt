@@ -1,22 +1,16 @@
-use mathlib.Core.Path.{sym, ◌∙◌}
-use native.Mathlib.Omega.{arith}
+use Rattle.std.proofs.Common.{arith}
 use Rattle.grammar.specs.Line.{blank}
-use Rattle.grammar.proofs.Scan.{run_more, run_none, run_end}
+use Rattle.grammar.proofs.Scan.{tail, run_inside}
 use Rattle.grammar.proofs.line.skip_blanks.Goals as goal
 
-pub returns-then-not-is_blank : goal.returns-then-not-is_blank
-returns-then-not-is_blank c = let v = c.loop-i in
+pub overflow_add-result : goal.overflow_add-result
+overflow_add-result c =
     let l = c.args.line.now in
-    let e = run_none blank l v.i (omega arith) (sym c.is_blank.ensures ∙ c.if-not-is_blank.true) in
-    (omega (arith, rw e at v.invariant.1), v.invariant.0)
-
-pub loop-i-preserved : goal.loop-i-preserved
-loop-i-preserved c = let v = c.loop-i in
-    let l = c.args.line.now in
-    let e = run_more blank l v.i (omega arith) (sym c.is_blank.ensures ∙ c.if-not-is_blank.false) in
-    (omega arith, omega (arith, rw e at v.invariant.1))
+    let e = rw (tail l c.args.at) at c.count_blanks.ensures in
+    omega (arith, e, run_inside blank l c.args.at c.requires)
 
 pub returns : goal.returns
-returns c = let v = c.loop-i in
-    let e = run_end blank c.args.line.now v.i (omega arith) in
-    (omega (arith, rw e at v.invariant.1), v.invariant.0)
+returns c =
+    let l = c.args.line.now in
+    let e = rw (tail l c.args.at) at c.count_blanks.ensures in
+    (omega (arith, e), omega (arith, e, run_inside blank l c.args.at c.requires))
