@@ -1,36 +1,23 @@
 // What a call answers and leaves, and the lent bytes and words, absorbed one by one.
+use crate::lists::List;
 use bus::state::Board;
 use calls::state::{Answer, Machine, Refusal, Run, Stop};
-use entries::Points;
 use watching::{Ending, Told};
 use word::{choice, halves};
 
-pub fn bytes(digest: u64, s: &[u8]) -> u64 {
+pub fn absorbed<T: Copy + Into<u16>>(digest: u64, items: &[T]) -> u64 {
     let mut h = digest;
-    let mut i = 0;
-    while i < s.len() {
-        h = report::absorb_byte(h, s[i]);
-        i += 1;
+    for item in items {
+        h = report::absorb(h, (*item).into());
     }
     h
 }
 
-pub fn words(digest: u64, s: &[u16]) -> u64 {
-    let mut h = digest;
-    let mut i = 0;
-    while i < s.len() {
-        h = report::absorb(h, s[i]);
-        i += 1;
-    }
-    h
-}
-
-fn numbers(h: u64, number: u16, steps: u16, bus: u32, cause: u16) -> u64 {
-    let a = report::absorb(h, number);
-    let b = report::absorb(a, steps);
-    let c = report::absorb(b, (bus % 65536) as u16);
-    let d = report::absorb(c, (bus / 65536) as u16);
-    report::absorb(d, cause)
+// A refusal's number, steps, bus bytes, and why a run stopped.
+fn numbers(h: u64, number: u8, steps: u16, bus: u32, cause: u16) -> u64 {
+    let low = (bus % 65536) as u16;
+    let high = (bus / 65536) as u16;
+    absorbed(h, &[u16::from(number), steps, low, high, cause])
 }
 
 fn cause(stop: Stop) -> u16 {
@@ -41,13 +28,11 @@ fn cause(stop: Stop) -> u16 {
 }
 
 fn ran(h: u64, run: Run) -> u64 {
-    let stop = run.stop;
-    numbers(h, 0, run.steps, run.bus, cause(stop))
+    numbers(h, 0, run.steps, run.bus, cause(run.stop))
 }
 
 fn refused(h: u64, why: Refusal) -> u64 {
-    let number = calls::state::number(why);
-    numbers(h, number as u16, 0, 0, 0)
+    numbers(h, calls::state::number(why), 0, 0, 0)
 }
 
 fn answered(h: u64, answer: Answer) -> u64 {
@@ -65,20 +50,19 @@ fn marks(b: Board) -> u16 {
 
 fn left(h: u64, m: Machine) -> u64 {
     let c = m.cpu;
-    let regs = c.regs;
-    let csrs = c.csrs;
     let b = c.board;
     let v = b.devices;
     let p = b.stretch;
-    let g = words(h, &regs);
-    let k = words(g, &csrs);
-    let clock = report::absorb(k, v.clock);
-    let keyboard = report::absorb(clock, halves::join(v.rxd, v.txd));
-    let bits = report::absorb(keyboard, marks(b));
-    let next = report::absorb(bits, (m.next % 65536) as u16);
-    let held = report::absorb(next, (m.held % 65536) as u16);
-    let first = report::absorb(held, p.first);
-    report::absorb(first, p.last)
+    let others = [
+        v.clock,
+        halves::join(v.rxd, v.txd),
+        marks(b),
+        (m.next % 65536) as u16,
+        (m.held % 65536) as u16,
+        p.first,
+        p.last,
+    ];
+    absorbed(absorbed(absorbed(h, &c.regs), &c.csrs), &others)
 }
 
 pub fn called(h: u64, answer: Answer, m: Machine) -> u64 {
@@ -96,16 +80,14 @@ fn ended(ending: Ending) -> u16 {
 }
 
 pub fn ended_run(h: u64, number: u8, told: Told, m: Machine) -> u64 {
-    let ending = told.ending;
-    let why = numbers(h, number as u16, told.steps, told.bus, ended(ending));
+    let why = numbers(h, number, told.steps, told.bus, ended(told.ending));
     left(report::absorb(why, (told.place % 65536) as u16), m)
 }
 
 // All 64 entries, lent or not.
-pub fn listed(h: u64, p: Points, hits: &[u16]) -> u64 {
-    let addresses = p.addresses;
-    let kinds = p.kinds;
-    let count = report::absorb(h, (p.count % 65536) as u16);
-    let a = words(count, &addresses);
-    words(words(a, &kinds), hits)
+pub fn listed(h: u64, l: &List) -> u64 {
+    let count = report::absorb(h, (l.points.count % 65536) as u16);
+    let addresses = absorbed(count, &l.points.addresses);
+    let kinds = absorbed(addresses, &l.points.kinds);
+    absorbed(kinds, &l.hits)
 }

@@ -34,27 +34,43 @@ fn journal_room() -> [u16; 33000]
     [0u16; 33000]
 }
 
-fn obeyed(rt: &impl Print, d: Desk, c: Command, ram: &mut [u8], journal: &mut [u16]) -> Desk {
-    if c.kind < 9 {
-        return requests::made(d, c, ram, journal);
+fn obey(rt: &impl Print, d: &mut Desk, c: Command) {
+    match c {
+        Command::Called(call) => requests::make(d, call),
+        Command::WatchedRun(budget) => requests::watched_run(d, budget),
+        Command::JournalWord { at, word } => d.journal.put(at, word),
+        Command::RamByte { at, byte } => d.ram.put(at, byte),
+        Command::Csr0(word) => d.machine.cpu.csrs[0] = word,
+        Command::NextSlot(slot) => d.machine.next = usize::from(slot),
+        Command::RecordsHeld(records) => d.machine.held = usize::from(records),
+        Command::Register { number, content } => {
+            settings::set_register(&mut d.machine.cpu, number, content);
+        }
+        Command::Halted(is_halted) => d.machine.cpu.board.halted = is_halted,
+        Command::Stretch { first, last } => {
+            settings::set_stretch(&mut d.machine.cpu, first, last);
+        }
+        Command::RamLent(bytes) => d.ram.lend(bytes),
+        Command::JournalLent(words) => d.journal.lend(words),
+        Command::Started(from) => state::start(d, from),
+        Command::Shown => settings::show(rt, d),
+        Command::Entry {
+            place,
+            address,
+            kind,
+        } => lists::set_entry(&mut d.list, place, address, kind),
+        Command::Hits { place, hits } => lists::set_hits(&mut d.list, place, hits),
+        Command::EntriesLent(entries) => d.list.points.count = usize::from(entries),
+        Command::Nothing => {}
     }
-    if c.kind == 20 {
-        return requests::run_points(d, c, ram, journal);
-    }
-    if (20 < c.kind) & (c.kind < 24) {
-        return lists::arranged(d, c);
-    }
-    settings::arranged(rt, d, c, ram, journal)
 }
 
+// The commands, one after the other; bytes after the last whole one are none.
 fn run(rt: &impl Print, input: &[u8], ram: &mut [u8], journal: &mut [u16]) {
-    let mut d = state::opened();
-    let mut at = 0;
-    while 6 <= input.len() - at {
-        let end = at + 6;
-        let c = commands::read(&input[at..end]);
-        d = obeyed(rt, d, c, ram, journal);
-        at = end;
+    let mut d = state::opened(ram, journal);
+    let (commands, _) = input.as_chunks::<6>();
+    for bytes in commands {
+        obey(rt, &mut d, commands::read(bytes));
     }
 }
 

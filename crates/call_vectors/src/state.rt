@@ -1,44 +1,44 @@
-// What stays from command to command, beside the buffers.
-ghost use Rattle.std.specs.Prelude.{◌≤◌};
-
+// What stays from command to command.
+use crate::buffers::Buffer;
+use crate::lists::List;
+use crate::{buffers, lists};
 use calls::state::Machine;
-use entries::Points;
 
-// The list is addresses and kinds, with the hits beside them. The lengths are of the parts that are lent, from the beginnings of the buffers.
-#[derive(Clone, Copy)]
-pub struct Desk {
+#[derive(Drop)]
+pub struct Desk<'a> {
     pub machine: Machine,
-    pub points: Points,
-    pub hits: [u16; 64],
+    pub list: List,
     pub digest: u64,
-    pub ram: u16,
-    pub journal: u16,
+    pub ram: Buffer<'a, u8>,
+    pub journal: Buffer<'a, u16>,
     pub line: u16,
 }
 
 // The machine as at the start, with no protected address.
-pub fn unprotected() -> Machine {
+fn unprotected() -> Machine {
     calls::state::start(bus::state::unprotected())
 }
 
 // Before the first command.
-pub fn opened() -> Desk {
-    let machine = unprotected();
-    let points = entries::none();
+pub fn opened<'a>(ram: &'a mut [u8], journal: &'a mut [u16]) -> Desk<'a> {
     Desk {
-        machine,
-        points,
-        hits: [0u16; 64],
+        machine: unprotected(),
+        list: lists::empty(),
         digest: 1,
-        ram: 0,
-        journal: 0,
+        ram: Buffer { all: ram, lent: 0 },
+        journal: Buffer {
+            all: journal,
+            lent: 0,
+        },
         line: 0,
     }
 }
 
-pub fn lent(wanted: u16, most: usize) -> usize
-    ensures { result ≤ most }
-{
-    let n = wanted as usize;
-    if n < most { n } else { most }
+// A new scenario: what is lent stays lent, and the lines go on.
+pub fn start(d: &mut Desk, from: u8) {
+    buffers::fill(d.ram.all, from);
+    d.journal.all.fill(0);
+    d.machine = unprotected();
+    d.list = lists::empty();
+    d.digest = 1;
 }

@@ -12,6 +12,9 @@ use isa::opcode;
 use names::register::PC;
 use report::input;
 
+// The states that are read. After them each is the state after a reset, with a RAM that is filled from 0.
+const READ: usize = 1072;
+
 // The `ensures` gives only the length, so that no proof writes the zeros out.
 fn room() -> [u8; 65536]
     ensures { 65536 ≡ length result }
@@ -32,35 +35,31 @@ fn one_word(h: u64, table: &[u8; 256], c: Cpu, ram: &mut [u8], word: u16) -> u64
 
 fn every_word(table: &[u8; 256], c: Cpu, ram: &mut [u8]) -> u64 {
     let mut h: u64 = 1;
-    let mut left: u32 = 65536;
-    while 0 < left {
-        h = one_word(h, table, c, ram, ((65536 - left) % 65536) as u16);
-        left = left - 1;
+    for word in 0..=u16::MAX {
+        h = one_word(h, table, c, ram, word);
     }
     digest::absorb_bytes(h, ram)
 }
 
-fn one_state(table: &[u8; 256], input: &[u8], at: usize, buffer: &mut [u8]) -> u64 {
-    let size = states::ram_length(input, at, buffer.len());
-    let from = states::fill_byte(input, at);
-    states::fill(&mut buffer[0..size], from);
-    let c = states::cpu_at(input, at);
-    every_word(table, c, &mut buffer[0..size])
+fn one_state(table: &[u8; 256], state: &[u8], is_read: bool, buffer: &mut [u8]) -> u64 {
+    let size = states::ram_length(state, buffer.len());
+    let ram = &mut buffer[..size];
+    if !is_read {
+        states::fill(ram, 0);
+        return every_word(table, bus::state::reset(bus::state::unprotected()), ram);
+    }
+    states::fill(ram, states::fill_byte(state));
+    every_word(table, states::cpu(state), ram)
 }
 
 // A line for each state.
 fn run(rt: &impl Print, table: &[u8; 256], input: &[u8], buffer: &mut [u8]) {
-    let mut at = 0;
-    while at < input.len() {
-        let h = one_state(table, input, at, buffer);
-        report::decimal(rt, (at / 56) as u64);
+    for (n, state) in input.chunks(states::SIZE).enumerate() {
+        let h = one_state(table, state, n < READ, buffer);
+        report::decimal(rt, n as u64);
         report::space(rt);
         report::hex(rt, h, 8);
         report::end(rt);
-        if input.len() - at < 56 {
-            return;
-        }
-        at = at + 56;
     }
 }
 
