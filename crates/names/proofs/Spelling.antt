@@ -2,6 +2,7 @@
 use mathlib.Core.Path.{◌≡◌, refl, ap}
 use mathlib.Core.Bool.{Bool, true, false, cond, ◌&&◌, ◌||◌}
 use mathlib.Core.List.{List, [], ◌∷◌, map}
+use Rattle.std.specs.Prelude.{Some, None}
 use Prim.Native.Nat.{ℕ, ◌<◌, ◌≤◌}
 use native.Mathlib.Omega.{arith}
 use borrow.Author.Tests.{leb-true, ltb-true}
@@ -12,8 +13,6 @@ use Rattle.letters.proofs.Lists.{agree, ranged}
 use Rattle.names.specs.Names.{lower, place_in, register_names, fixed_names, fixed_numbers, csr_names, register_name, csr_name, reg_named, csr_named, reg_numbered, reg_fixed, csr_numbered}
 use Rattle.names.specs.declared.register.Reg.{Reg}
 use Rattle.names.specs.declared.register.Csr.{Csr}
-use Rattle.names.specs.declared.register.FoundReg.{FoundReg}
-use Rattle.names.specs.declared.register.FoundCsr.{FoundCsr}
 use Rattle.names.proofs.Keyed.{left, right}
 
 -- a small letter or a digit
@@ -71,49 +70,49 @@ unfolding reg_named lower
 registers-named = refl
 
 pub register-named : (k : ℕ) → k < 16 → reg_named (register_name k) ≡ reg_numbered k
-register-named = agree FoundReg.Unknown (λ k. reg_named (register_name k)) reg_numbered 16 registers-named
+register-named = agree None (λ k. reg_named (register_name k)) reg_numbered 16 registers-named
 
 csrs-named : images (λ k. csr_named (csr_name k)) 0 16 ≡ images csr_numbered 0 16
 unfolding csr_named lower
 csrs-named = refl
 
 pub csr-named : (k : ℕ) → k < 16 → csr_named (csr_name k) ≡ csr_numbered k
-csr-named = agree FoundCsr.Unknown (λ k. csr_named (csr_name k)) csr_numbered 16 csrs-named
+csr-named = agree None (λ k. csr_named (csr_name k)) csr_numbered 16 csrs-named
 
 -- ---- what is found is a number below 16
 
-numbered-small : (n : ℕ) (r : Reg) → reg_numbered n ≡ FoundReg.Is r → r.number ≤ 15
+numbered-small : (n : ℕ) (r : Reg) → reg_numbered n ≡ Some r → r.number ≤ 15
 numbered-small n r = go (leb n 15) refl
   where
-    go : (t : Bool) → leb n 15 ≡ t → cond t (FoundReg.Is (record { number = n })) FoundReg.Unknown ≡ FoundReg.Is r → r.number ≤ 15
+    go : (t : Bool) → leb n 15 ≡ t → cond t (Some (record { number = n })) None ≡ Some r → r.number ≤ 15
     go true l e = let q : ◌≡◌ {A = Reg} (record { number = n }) r = cc in rw (← ap (λ (x : Reg). x.number) q) (leb-true n 15 l)
     go false l e = let z : ◌≡◌ {A = ℕ} 0 1 = cc in absurd (omega arith)
 
-fixed-small : (p : ℕ) (r : Reg) → reg_fixed p ≡ FoundReg.Is r → r.number ≤ 15
+fixed-small : (p : ℕ) (r : Reg) → reg_fixed p ≡ Some r → r.number ≤ 15
 fixed-small p r = go (ltb p 5) refl
   where
-    go : (t : Bool) → ltb p 5 ≡ t → cond t (FoundReg.Is (record { number = get_or fixed_numbers p 0 })) FoundReg.Unknown ≡ FoundReg.Is r → r.number ≤ 15
+    go : (t : Bool) → ltb p 5 ≡ t → cond t (Some (record { number = get_or fixed_numbers p 0 })) None ≡ Some r → r.number ≤ 15
     go true l e =
         let q : ◌≡◌ {A = Reg} (record { number = get_or fixed_numbers p 0 }) r = cc in
         let s = ranged (λ p. leb (get_or fixed_numbers p 0) 15) true 0 5 refl p (omega arith) (ltb-true p 5 l) in
         rw (← ap (λ (x : Reg). x.number) q) (leb-true _ _ s)
     go false l e = let z : ◌≡◌ {A = ℕ} 0 1 = cc in absurd (omega arith)
 
-pub reg-small : (w : List ℕ) (r : Reg) → reg_named w ≡ FoundReg.Is r → r.number ≤ 15
+pub reg-small : (w : List ℕ) (r : Reg) → reg_named w ≡ Some r → r.number ≤ 15
 unfolding reg_named
 reg-small w r = go (ltb (place_in register_names (map lower w)) 16)
   where
-    go : (t : Bool) → cond t (reg_numbered (place_in register_names (map lower w))) (reg_fixed (place_in fixed_names (map lower w))) ≡ FoundReg.Is r → r.number ≤ 15
+    go : (t : Bool) → cond t (reg_numbered (place_in register_names (map lower w))) (reg_fixed (place_in fixed_names (map lower w))) ≡ Some r → r.number ≤ 15
     go true e = numbered-small (place_in register_names (map lower w)) r e
     go false e = fixed-small (place_in fixed_names (map lower w)) r e
 
-pub csr-small : (w : List ℕ) (r : Csr) → csr_named w ≡ FoundCsr.Is r → r.number ≤ 15
+pub csr-small : (w : List ℕ) (r : Csr) → csr_named w ≡ Some r → r.number ≤ 15
 unfolding csr_named
 csr-small w r = go (place_in csr_names (map lower w))
   where
-    go : (n : ℕ) → csr_numbered n ≡ FoundCsr.Is r → r.number ≤ 15
+    go : (n : ℕ) → csr_numbered n ≡ Some r → r.number ≤ 15
     go n = of (leb n 15) refl
       where
-        of : (t : Bool) → leb n 15 ≡ t → cond t (FoundCsr.Is (record { number = n })) FoundCsr.Unknown ≡ FoundCsr.Is r → r.number ≤ 15
+        of : (t : Bool) → leb n 15 ≡ t → cond t (Some (record { number = n })) None ≡ Some r → r.number ≤ 15
         of true l e = let q : ◌≡◌ {A = Csr} (record { number = n }) r = cc in rw (← ap (λ (x : Csr). x.number) q) (leb-true n 15 l)
         of false l e = let z : ◌≡◌ {A = ℕ} 0 1 = cc in absurd (omega arith)

@@ -1,10 +1,10 @@
 -- Names of registers and CSRs, and what a name that a person wrote stands for.
-use Rattle.std.specs.Prelude.{ℕ, suc, Bool, true, false, cond, ◌&&◌, List, [], ◌∷◌, map, eqb, leb, ltb, get_or}
+use Rattle.std.specs.Prelude.{ℕ, suc, Bool, true, false, cond, Option, Some, None, ◌&&◌, List, [], ◌∷◌, map, eqb, leb, ltb, get_or}
 use Prim.Native.String.{String}
 use Prim.Native.Char.{code}
 unfoldable pub use Rattle.letters.specs.Letters.{lower}
-use Rattle.names.specs.declared.register.FoundReg.{FoundReg}
-use Rattle.names.specs.declared.register.FoundCsr.{FoundCsr}
+use Rattle.names.specs.declared.register.Reg.{Reg}
+use Rattle.names.specs.declared.register.Csr.{Csr}
 
 -- the bytes of a text of ASCII characters
 abbrev pub bytes : String → List ℕ
@@ -69,19 +69,19 @@ place_in [] w = 0
 place_in (n ∷ ns) w = cond (spells w n) 0 (suc (place_in ns w))
 
 -- a register by its number: "any number 0–15"
-abbrev pub reg_numbered : ℕ → FoundReg
-reg_numbered n = cond (leb n 15) (FoundReg.Is (record { number = n })) FoundReg.Unknown
+abbrev pub reg_numbered : ℕ → Option Reg
+reg_numbered n = cond (leb n 15) (Some (record { number = n })) None
 
 -- a register by its place among the fixed names
-abbrev pub reg_fixed : ℕ → FoundReg
-reg_fixed p = cond (ltb p 5) (FoundReg.Is (record { number = get_or fixed_numbers p 0 })) FoundReg.Unknown
+abbrev pub reg_fixed : ℕ → Option Reg
+reg_fixed p = cond (ltb p 5) (Some (record { number = get_or fixed_numbers p 0 })) None
 
 -- a register by its canonical or its fixed name, in either case
-unfoldable pub reg_named : List ℕ → FoundReg
+unfoldable pub reg_named : List ℕ → Option Reg
 reg_named w = cond (ltb (place_in register_names (map lower w)) 16) (reg_numbered (place_in register_names (map lower w))) (reg_fixed (place_in fixed_names (map lower w)))
 
-abbrev pub csr_numbered : ℕ → FoundCsr
-csr_numbered n = cond (leb n 15) (FoundCsr.Is (record { number = n })) FoundCsr.Unknown
+abbrev pub csr_numbered : ℕ → Option Csr
+csr_numbered n = cond (leb n 15) (Some (record { number = n })) None
 
-unfoldable pub csr_named : List ℕ → FoundCsr
+unfoldable pub csr_named : List ℕ → Option Csr
 csr_named w = csr_numbered (place_in csr_names (map lower w))

@@ -17,34 +17,28 @@ pub const F: usize = Reg::F.number as usize;
 
 pub const PC: usize = Reg::PC.number as usize;
 
-#[derive(Clone, Copy)]
-pub enum FoundReg {
-    Is(Reg),
-    Unknown,
-}
-
 // The canonical name as one number, its first byte lowest: `r` and one or two digits; 0 where there is no such register.
 fn register_key(number: u8) -> u64
     ensures { result ≡ pack (register_name number) }
 {
     let n = number as u64;
-    if n < 10 {
-        return 0x3072 + 0x100 * n;
+    match number {
+        0..=9 => 0x3072 + 0x100 * n,
+        10..=15 => 0x303172 + 0x10000 * (n - 10),
+        _ => 0,
     }
-    if n < 16 {
-        return 0x303172 + 0x10000 * (n - 10);
-    }
-    0
 }
 
 // The number that a canonical name with this key has, by its last digit. Of other keys it says nothing.
+#[tactic(auto, unfolding(crate::specs::Code::number_near))]
 fn near(key: u64) -> u8
     ensures { result ≡ number_near key }
 {
     if key < 0x10000 {
-        return (key / 0x100 % 16) as u8;
+        (key / 0x100 % 16) as u8
+    } else {
+        ((10 + key / 0x10000 % 16) % 16) as u8
     }
-    ((10 + key / 0x10000 % 16) % 16) as u8
 }
 
 impl Reg {
@@ -58,17 +52,13 @@ impl Reg {
 
     pub const PC: Reg = Reg { number: 15 };
 
-    pub fn from_number(n: u8) -> FoundReg
+    pub fn from_number(n: u8) -> Option<Reg>
         ensures { result ≡ reg_numbered n }
     {
-        if n <= 15 {
-            FoundReg::Is(Reg { number: n })
-        } else {
-            FoundReg::Unknown
-        }
+        (n <= 15).then_some(Reg { number: n })
     }
 
-    // The canonical name as one number, its first byte lowest; 0 where there is no such register.
+    // The canonical name as one number, its first byte lowest; 0 where there is no such register: `name` can't fail, and its contract speaks of every number.
     pub fn name(self) -> u64
         ensures { result ≡ pack (register_name self.number) }
     {
@@ -76,24 +66,25 @@ impl Reg {
     }
 
     // By the key of a fixed name.
-    fn fixed(key: u64) -> FoundReg
+    #[tactic(auto, unfolding(crate::specs::Code::fixed_keyed))]
+    fn fixed(key: u64) -> Option<Reg>
         ensures { result ≡ fixed_keyed key }
     {
         match key {
-            0x7073 => FoundReg::Is(Reg::SP),
-            0x6163 => FoundReg::Is(Reg::CA),
-            0x6169 => FoundReg::Is(Reg::IA),
-            0x66 => FoundReg::Is(Reg::F),
-            0x6370 => FoundReg::Is(Reg::PC),
-            _ => FoundReg::Unknown,
+            0x7073 => Some(Reg::SP),
+            0x6163 => Some(Reg::CA),
+            0x6169 => Some(Reg::IA),
+            0x66 => Some(Reg::F),
+            0x6370 => Some(Reg::PC),
+            _ => None,
         }
     }
 
     // By a canonical or a fixed name, of either case.
-    pub fn from_name(name: &[u8]) -> FoundReg
+    pub fn from_name(name: &[u8]) -> Option<Reg>
         ensures { result ≡ reg_named name.now }
     {
-        let key = keys::key(name);
+        let key = keys::key(name)?;
         let number = near(key);
         if register_key(number) == key {
             Reg::from_number(number)
@@ -103,15 +94,10 @@ impl Reg {
     }
 }
 
+// Of a trait for `Reg` and `Csr` only the one line of `from_number` would be shared, since names are found otherwise; so they have none.
 #[derive(Clone, Copy)]
 pub struct Csr {
     pub number: u8,
-}
-
-#[derive(Clone, Copy)]
-pub enum FoundCsr {
-    Is(Csr),
-    Unknown,
 }
 
 // The name as one number: `cs` before the name of the register with the same number; 0 where there is no such CSR.
@@ -126,14 +112,10 @@ fn csr_key(number: u8) -> u64
 }
 
 impl Csr {
-    pub fn from_number(n: u8) -> FoundCsr
+    pub fn from_number(n: u8) -> Option<Csr>
         ensures { result ≡ csr_numbered n }
     {
-        if n <= 15 {
-            FoundCsr::Is(Csr { number: n })
-        } else {
-            FoundCsr::Unknown
-        }
+        (n <= 15).then_some(Csr { number: n })
     }
 
     pub fn name(self) -> u64
@@ -142,15 +124,15 @@ impl Csr {
         csr_key(self.number)
     }
 
-    pub fn from_name(name: &[u8]) -> FoundCsr
+    pub fn from_name(name: &[u8]) -> Option<Csr>
         ensures { result ≡ csr_named name.now }
     {
-        let key = keys::key(name);
+        let key = keys::key(name)?;
         let number = near(key / 0x10000);
         if csr_key(number) == key {
             Csr::from_number(number)
         } else {
-            FoundCsr::Unknown
+            None
         }
     }
 }

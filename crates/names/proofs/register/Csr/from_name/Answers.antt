@@ -1,14 +1,18 @@
-use mathlib.Core.Path.{◌∙◌}
+use mathlib.Core.Path.{sym, ◌∙◌}
 use Rattle.names.proofs.Keyed.{known_bytes}
-use Rattle.names.proofs.Guesses.{csr-found, csr-missed}
+use Rattle.names.proofs.Guesses.{csr-unkeyed, csr-found, csr-missed}
 use Rattle.names.proofs.register.Csr.from_name.Goals as goal
 
+pub returns-in_err-key : goal.returns-in_err-key
+returns-in_err-key c = c.from_residual.ensures ∙ csr-unkeyed _ (sym c.in_err-key.ensures)
+
 pub returns-then-csr_key-key : goal.returns-then-csr_key-key
-returns-then-csr_key-key c = let w = c.args.name.now in
+returns-then-csr_key-key c =
     c.from_number.ensures
-    ∙ csr-found w (known_bytes w c.shared_slice_known-1.given) _ _ _ c.key-key.ensures c.near-number.ensures c.csr_key.ensures
+    ∙ csr-found _ (known_bytes _ c.type_inv.name) _ _ _ (sym c.in_ok-key.ensures) c.near-number.ensures c.csr_key.ensures
     c.if-csr_key-key.true
 
 pub returns-else-csr_key-key : goal.returns-else-csr_key-key
-returns-else-csr_key-key c = let w = c.args.name.now in
-    csr-missed w (known_bytes w c.shared_slice_known-1.given) _ _ _ c.key-key.ensures c.near-number.ensures c.csr_key.ensures c.if-csr_key-key.false
+returns-else-csr_key-key c =
+    csr-missed _ (known_bytes _ c.type_inv.name) _ _ _ (sym c.in_ok-key.ensures) c.near-number.ensures c.csr_key.ensures
+    c.if-csr_key-key.false
