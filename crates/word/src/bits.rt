@@ -6,7 +6,7 @@ ghost use Rattle.word.specs.Bits.{bit_at, and_at, or_at, xor_at, not_at, rev_at,
 pub fn bit(w: u16, i: u16) -> bool
     ensures { result ≡ bit_at w i }
 {
-    if i < 16 { (w >> i) % 2 == 1 } else { false }
+    i < 16 && (w >> i) % 2 == 1
 }
 
 pub fn and(a: u16, b: u16) -> u16
@@ -30,7 +30,7 @@ pub fn xor(a: u16, b: u16) -> u16
 pub fn not(a: u16) -> u16
     ensures { result ≡ not_at 16 a }
 {
-    65535 - a
+    !a
 }
 
 // Each line swaps neighbouring groups that are reversed by now, so that groups of twice their bits are.
@@ -47,7 +47,7 @@ pub fn rev(a: u16) -> u16
 pub fn shl(a: u16, by: u16) -> u16
     ensures { result ≡ shl_at 16 a (by % 16) }
 {
-    (((a as u32) << (by % 16)) % 65536) as u16
+    ((u32::from(a) << (by % 16)) % 65536) as u16
 }
 
 pub fn shr(a: u16, by: u16) -> u16
@@ -64,5 +64,5 @@ pub fn shra(a: u16, by: u16) -> u16
     if a < 32768 {
         return a >> n;
     }
-    65535 - ((65535 - a) >> n)
+    !(!a >> n)
 }

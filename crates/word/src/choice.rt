@@ -2,16 +2,10 @@
 ghost use Rattle.std.specs.Prelude.{◌≡◌, ◌≤◌, ◌&&◌, ◌||◌, if◌then◌else◌};
 ghost use Rattle.std.specs.Bool.{xor, beq};
 
-pub fn pick(test: bool, yes: u16, other: u16) -> u16
+pub fn pick<T: Copy>(test: bool, yes: T, other: T) -> T
     ensures { result ≡ (if test then yes else other) }
 {
     if test { yes } else { other }
-}
-
-pub fn pick_bool(test: bool, yes: bool, otherwise: bool) -> bool
-    ensures { result ≡ (if test then yes else otherwise) }
-{
-    if test { yes } else { otherwise }
 }
 
 // The weight where the test holds, else 0. The bound is for sums of weights.
@@ -19,29 +13,29 @@ pub fn weigh(test: bool, weight: u16) -> u16
     ensures value { result ≡ (if test then weight else 0) }
     ensures upper_bound { result ≤ weight }
 {
-    if test { weight } else { 0 }
+    pick(test, weight, 0)
 }
 
 pub fn both(a: bool, b: bool) -> bool
     ensures { result ≡ (a && b) }
 {
-    if a { b } else { false }
+    a && b
 }
 
 pub fn either(a: bool, b: bool) -> bool
     ensures { result ≡ (a || b) }
 {
-    if a { true } else { b }
+    a || b
 }
 
 pub fn alike(a: bool, b: bool) -> bool
     ensures { result ≡ beq a b }
 {
-    if a { b } else { !b }
+    a == b
 }
 
 pub fn unlike(a: bool, b: bool) -> bool
     ensures { result ≡ xor a b }
 {
-    !alike(a, b)
+    a != b
 }

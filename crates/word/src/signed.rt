@@ -2,13 +2,11 @@
 ghost use Rattle.std.specs.Prelude.{◌≡◌, ◌+◌, ◌%◌, true, if◌then◌else◌, nat_le, nat_lt};
 ghost use Rattle.word.specs.Signed.{sum_overflows, difference_overflows, signed_at_most, signed_below};
 
-use crate::choice::pick_bool;
-
 // The signed number, plus 32,768: it keeps the order and has no sign.
 fn raised(a: u16) -> u32
     ensures { result ≡ (a + 32768) % 65536 }
 {
-    (a as u32 + 32768) % 65536
+    (u32::from(a) + 32768) % 65536
 }
 
 pub fn at_most(a: u16, b: u16) -> bool
@@ -27,7 +25,7 @@ pub fn below(a: u16, b: u16) -> bool
 fn outside(n: u32) -> bool
     ensures { result ≡ (if nat_lt n 32768 then true else nat_le 98304 n) }
 {
-    pick_bool(n < 32768, true, 98304 <= n)
+    n < 32768 || 98304 <= n
 }
 
 pub fn sum_overflows(a: u16, b: u16) -> bool

@@ -5,11 +5,11 @@ ghost use Rattle.word.specs.Word.{plus_at, minus_at};
 pub fn plus(a: u16, b: u16) -> u16
     ensures { result ≡ plus_at 16 a b }
 {
-    std::num::wrapping_add_u16(a, b)
+    a.wrapping_add(b)
 }
 
 pub fn minus(a: u16, b: u16) -> u16
     ensures { result ≡ minus_at 16 a b }
 {
-    std::num::wrapping_sub_u16(a, b)
+    a.wrapping_sub(b)
 }

@@ -1,7 +1,7 @@
-use Rattle.std.proofs.Common.{not, ap}
+use Rattle.std.proofs.Common.{refl}
 use mathlib.Core.Bool.{xor}
 use Rattle.word.proofs.choice.unlike.Goals as goal
 
 pub returns : goal.returns
 unfolding xor
-returns c = ap not c.alike.ensures
+returns c = refl
