@@ -1,13 +1,10 @@
 -- How the code goes through what stands between quotes.
-use Rattle.std.specs.Prelude.{ℕ, Bool, true, false, List, length, set}
-use Rattle.std.proofs.Math.Option.{Option, some, none}
+use Rattle.std.specs.Prelude.{ℕ, Bool, true, false, List, length, set, Option, Some, None}
 use Rattle.std.proofs.lemmas.List.Edits.{sets}
 use Rattle.quoted.specs.declared.Mode.{Mode}
 use Rattle.quoted.specs.declared.Mode.TheVariants.{Plain, Escape, Code, Digit, Fault}
 use Rattle.quoted.specs.declared.Reading.{Reading}
 use Rattle.quoted.specs.declared.Reading.TheVariants.{On, Char}
-use Rattle.quoted.specs.declared.Number.{Number}
-use Rattle.quoted.specs.declared.Number.TheVariants.{These, Faulty}
 
 abbrev pub mode_after : Reading → Mode
 mode_after (On m) = m
@@ -31,11 +28,11 @@ whole (Digit h) = false
 whole Fault = false
 
 -- how many characters, with any room
-abbrev pub counted : Option (List ℕ) → Number
-counted none = Faulty
-counted (some cs) = These (length cs)
+abbrev pub counted : Option (List ℕ) → Option ℕ
+counted None = None
+counted (Some cs) = Some (length cs)
 
 -- characters, stored from a place on
 abbrev pub written : Option (List ℕ) → ℕ → List ℕ → List ℕ
-written none at out = out
-written (some cs) at out = sets out at cs
+written None at out = out
+written (Some cs) at out = sets out at cs

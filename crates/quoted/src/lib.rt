@@ -1,11 +1,10 @@
 // What stands between quotes: characters of their own, and escape sequences.
 #![tactic(auto)]
 
-ghost use Rattle.std.specs.Prelude.{◌≡◌, ◌+◌, ◌≤◌, length};
+ghost use Rattle.std.specs.Prelude.{◌≡◌, ◌+◌, ◌≤◌, length, Some};
 ghost use Rattle.quoted.specs.Quoted.{replaced as replaced_by, coded_as, character_as, turn_of, meant, chars_say, chars_leave};
 ghost use Rattle.quoted.specs.Code.{mode_after, chars_in, stored, whole, counted, written};
 ghost use Rattle.quoted.specs.declared.Mode.TheVariants.{Plain};
-ghost use Rattle.quoted.specs.declared.Number.TheVariants.{These};
 
 // Where the reading stands: at a character, after a backslash, after `\x`, after `\x` and a digit; or it met a fault.
 #[derive(Clone, Copy)]
@@ -24,63 +23,50 @@ pub enum Reading {
     Char(u8),
 }
 
-// How many characters there are; or there is a fault; or no room for them.
+// Why nothing is read: the text is no such text, or there is no room for its characters.
 #[derive(Clone, Copy)]
-pub enum Chars {
-    Are(usize),
+pub enum Fault {
     Bad,
     NoRoom,
 }
 
-// How many characters there are, whatever the room.
-#[derive(Clone, Copy)]
-enum Number {
-    These(usize),
-    Faulty,
-}
-
+#[tactic(auto, unfolding(crate::specs::Quoted::replaced))]
 fn replaced(b: u8) -> Reading
     ensures { result ≡ replaced_by b }
 {
     match b {
-        48 => Reading::Char(0),
-        116 => Reading::Char(9),
-        110 => Reading::Char(10),
-        114 => Reading::Char(13),
-        34 => Reading::Char(34),
-        39 => Reading::Char(39),
-        92 => Reading::Char(92),
-        120 => Reading::On(Mode::Code),
+        b'0' => Reading::Char(0),
+        b't' => Reading::Char(b'\t'),
+        b'n' => Reading::Char(b'\n'),
+        b'r' => Reading::Char(b'\r'),
+        b'"' => Reading::Char(b'"'),
+        b'\'' => Reading::Char(b'\''),
+        b'\\' => Reading::Char(b'\\'),
+        b'x' => Reading::On(Mode::Code),
         _ => Reading::On(Mode::Fault),
     }
 }
 
+#[tactic(auto, unfolding(crate::specs::Quoted::coded_as))]
 fn coded(first: u8, second: u8) -> Reading
     ensures { result ≡ coded_as first second }
 {
-    let h = letters::hex_value(first);
-    let l = letters::hex_value(second);
-    if h < 16 {
-        if l < 16 {
-            return Reading::Char(16 * h + l);
-        }
+    match (letters::hex_value(first), letters::hex_value(second)) {
+        (Some(high), Some(low)) => Reading::Char(16 * high + low),
+        _ => Reading::On(Mode::Fault),
     }
-    Reading::On(Mode::Fault)
 }
 
+#[tactic(auto, unfolding(crate::specs::Quoted::character_as))]
 fn character(quote: u8, b: u8) -> Reading
     ensures { result ≡ character_as quote b }
 {
-    if b == 92 {
-        return Reading::On(Mode::Escape);
+    match b {
+        b'\\' => Reading::On(Mode::Escape),
+        _ if b == quote => Reading::On(Mode::Fault),
+        0..=31 => Reading::On(Mode::Fault),
+        _ => Reading::Char(b),
     }
-    if b == quote {
-        return Reading::On(Mode::Fault);
-    }
-    if b < 32 {
-        return Reading::On(Mode::Fault);
-    }
-    Reading::Char(b)
 }
 
 fn turn(quote: u8, mode: Mode, b: u8) -> Reading
@@ -127,61 +113,49 @@ fn store(r: Reading, out: &mut [u8], at: usize)
 fn is_whole(mode: Mode) -> bool
     ensures { result ≡ whole mode }
 {
-    match mode {
-        Mode::Plain => true,
-        Mode::Escape => false,
-        Mode::Code => false,
-        Mode::Digit(first) => false,
-        Mode::Fault => false,
-    }
+    matches!(mode, Mode::Plain)
 }
 
-fn count(quote: u8, text: &[u8]) -> Number
+// How many characters there are, whatever the room; None where there is a fault.
+fn count(quote: u8, text: &[u8]) -> Option<usize>
     ensures { result ≡ counted (meant quote Plain text.now) }
 {
     let mut mode = Mode::Plain;
     let mut n: usize = 0;
-    let mut i: usize = 0;
-    while i < text.len() {
-        let r = turn(quote, mode, text[i]);
+    for &b in text {
+        let r = turn(quote, mode, b);
         mode = mode_after(r);
         n += chars_in(r);
-        i += 1;
     }
-    if is_whole(mode) {
-        return Number::These(n);
-    }
-    Number::Faulty
+    if is_whole(mode) { Some(n) } else { None }
 }
 
 // The characters, where there are n of them and room for all.
 fn put(quote: u8, text: &[u8], out: &mut [u8], n: usize)
-    requires { (counted (meant quote Plain text.now) ≡ These n) × (n ≤ length out.old) }
+    requires { (counted (meant quote Plain text.now) ≡ Some n) × (n ≤ length out.old) }
     ensures { out.new ≡ written (meant quote Plain text.now) 0 out.old }
 {
     let mut mode = Mode::Plain;
     let mut k: usize = 0;
-    let mut i: usize = 0;
-    while i < text.len() {
-        let r = turn(quote, mode, text[i]);
+    for &b in text {
+        let r = turn(quote, mode, b);
         mode = mode_after(r);
         store(r, out, k);
         k += chars_in(r);
-        i += 1;
     }
 }
 
-// The characters that stand between two quotes, at the front of the output; where there is a fault, or no room, the output is as it was.
-pub fn read(quote: u8, text: &[u8], out: &mut [u8]) -> Chars
+// The characters that stand between two quotes, at the front of the output: how many. On Err the output is as it was.
+pub fn read(quote: u8, text: &[u8], out: &mut [u8]) -> Result<usize, Fault>
     ensures value { result ≡ chars_say (meant quote Plain text.now) (length out.old) }
     ensures out_after { out.new ≡ chars_leave (meant quote Plain text.now) out.old }
 {
-    let Number::These(n) = count(quote, text) else {
-        return Chars::Bad;
+    let Some(n) = count(quote, text) else {
+        return Err(Fault::Bad);
     };
     if out.len() < n {
-        return Chars::NoRoom;
+        return Err(Fault::NoRoom);
     }
     put(quote, text, out, n);
-    Chars::Are(n)
+    Ok(n)
 }

@@ -1,15 +1,8 @@
-use mathlib.Core.Path.{◌≡◌, sym, ◌∙◌}
+use mathlib.Core.Path.{sym, ◌∙◌}
 use Rattle.quoted.specs.Quoted.{meant}
-use Rattle.quoted.specs.Code.{counted}
 use Rattle.quoted.specs.declared.Mode.TheVariants.{Plain}
-use Rattle.quoted.specs.declared.Number.TheVariants.{These}
 use Rattle.quoted.proofs.Turns.{faulty, no_room, with-room}
 use Rattle.quoted.proofs.read.Goals as goal
-use Rattle.quoted.proofs.read.Goals.{In-These}
-
--- the count is the text's
-these : (c : In-These) → let a = c.args in counted (meant a.quote Plain a.text.now) ≡ These c.in-These.n
-these c = sym c.count.ensures ∙ c.in-These.is
 
 pub returns-in_default : goal.returns-in_default
 returns-in_default c = let a = c.args in
@@ -17,11 +10,8 @@ returns-in_default c = let a = c.args in
 
 pub returns-then-out-n : goal.returns-then-out-n
 returns-then-out-n c = let a = c.args in
-    let both = no_room _ a.out.now (meant a.quote Plain a.text.now) (these (goal.at.returns-then-out-n c).In-These) c.if-out-n.true in record { value = both.0; out_after = both.1 }
+    let both = no_room _ a.out.now (meant a.quote Plain a.text.now) (sym c.count.ensures ∙ c.in-Some.is) c.if-out-n.true in record { value = both.0; out_after = both.1 }
 
 pub returns : goal.returns
 returns c = let a = c.args in
-    let both = with-room _ a.out.now (meant a.quote Plain a.text.now) _ (these (goal.at.returns c).In-These) c.if-out-n.false c.put.ensures in record { value = both.0; out_after = both.1 }
-
-pub put-requires : goal.put-requires
-put-requires c = (these (goal.at.put-requires c).In-These, c.if-out-n.false)
+    let both = with-room _ a.out.now (meant a.quote Plain a.text.now) _ (sym c.count.ensures ∙ c.in-Some.is) c.if-out-n.false c.put.ensures in record { value = both.0; out_after = both.1 }
