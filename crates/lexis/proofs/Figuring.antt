@@ -1,47 +1,21 @@
 -- Digits, one after the other, and the number that they make.
-use Prim.Native.Nat.{ℕ, ◌+◌, ◌-◌, ◌*◌, ◌<◌, ◌≤◌, min}
+use Prim.Native.Nat.{ℕ, suc, ◌+◌, ◌*◌, ◌<◌, ◌≤◌, min}
 use mathlib.Core.Path.{◌≡◌, refl, sym, ap, ◌∙◌}
 use mathlib.Core.Bool.{Bool, true, false, cond, ◌&&◌}
 use mathlib.Core.List.{List, [], ◌∷◌}
 use native.Mathlib.Omega.{arith}
-use native.Mathlib.Numerals.{add-one}
-use native.Mathlib.Nat.{mul-le-mul_right, zero-add}
-use borrow.Author.Tests.{ltb-true, ltb-false, lt-ltb, le-ltb, lt-leb, leb-true, leb-false, ne_eqb}
+use native.Mathlib.Nat.{mul-le-mul_right, zero-add, add-zero}
+use borrow.Author.Tests.{ltb-true, ltb-false, lt-ltb, le-ltb, lt-leb, leb-true, leb-false}
 use lib.Dec.{eqb, leb, ltb}
-use lib.ListN.{length, get_or, take, drop, length-drop, get_or-eq_default}
-use lib.Seq.{drop-cons, take_all}
+use lib.ListN.{length, get_or, get_or-eq_default}
+use Rattle.std.specs.Prelude.{Option, Some, None, Result, Err}
 use Rattle.letters.specs.Letters.{lower, hex_value}
-use Rattle.lexis.specs.Numbers.{grouped, digits, value_in, most, valued_of, unsigned_in, base_by, base_of, unsigned_of, number_of}
-use Rattle.lexis.specs.Code.{longer_of, gone_on, no_figures, figures_of, judged_of}
+use Rattle.lexis.specs.Numbers.{worth, grouped, digits, value_in, most, valued_of, unsigned_in, base_by, unsigned_of}
+use Rattle.lexis.specs.Code.{with_figure, longer_of, on_from, gone_on, no_figures, figures_of, judged_of}
 use Rattle.lexis.specs.declared.numbers.Figures.{Figures}
-use Rattle.lexis.specs.declared.numbers.Read.{Read}
-use Rattle.lexis.specs.declared.numbers.Read.TheVariants.{Bad}
-
-pub one_further : (base : ℕ) (d : Figures) (l : List ℕ) (i : ℕ) → i < length l
-    → gone_on base d (drop i l) ≡ gone_on base (longer_of base d (get_or l i 0)) (drop (i + 1) l)
-one_further base d l i h =
-    ap (gone_on base d) (drop-cons l i 0 h) ∙ ap (λ (k : ℕ). gone_on base (longer_of base d (get_or l i 0)) (drop k l)) (sym (add-one i))
-
-assoc : (a b c : Bool) → ((a && b) && c) ≡ (a && (b && c))
-assoc true b c = refl
-assoc false b c = refl
-
--- one byte more, by whether it is an underscore
-abbrev grown : ℕ → Figures → ℕ → Bool → Figures
-grown base d x t =
-    cond t (record { value = d.value; count = d.count; digit = false; sound = d.sound && d.digit })
-    (record { value = min 65536 (d.value * base + x); count = min 9 (d.count + 1); digit = true; sound = d.sound && ltb x base })
-
--- every byte stands where it may
-sounds : (base : ℕ) (d : Figures) (l : List ℕ) → ((gone_on base d l).sound && (gone_on base d l).digit) ≡ (d.sound && grouped base d.digit l)
-unfolding longer_of
-sounds base d [] = refl
-sounds base d (b ∷ bs) = sounds base (longer_of base d b) bs ∙ go (eqb b 95)
-  where
-    go : (t : Bool) → ((grown base d (hex_value b) t).sound && grouped base (grown base d (hex_value b) t).digit bs)
-        ≡ (d.sound && cond t (d.digit && grouped base false bs) (ltb (hex_value b) base && grouped base true bs))
-    go true = assoc d.sound d.digit (grouped base false bs)
-    go false = assoc d.sound (ltb (hex_value b) base) (grouped base true bs)
+use Rattle.lexis.specs.declared.numbers.Value.{Value}
+use Rattle.lexis.specs.declared.numbers.Fault.{Fault}
+use Rattle.lexis.specs.declared.numbers.Fault.TheVariants.{Bad}
 
 -- two numbers that are equal as far as 65,536 stay so when digits follow
 module _ (base : ℕ) (h : 1 ≤ base) where
@@ -58,28 +32,6 @@ module _ (base : ℕ) (h : 1 ≤ base) where
   same-value : (a b : ℕ) (ds : List ℕ) → min 65536 a ≡ min 65536 b → min 65536 (value_in base a ds) ≡ min 65536 (value_in base b ds)
   same-value a b [] e = e
   same-value a b (d ∷ ds) e = same-value (a * base + d) (b * base + d) ds (capped a b d e)
-
-  values : (d : Figures) (l : List ℕ) → d.value ≤ 65536 → (gone_on base d l).value ≡ min 65536 (value_in base d.value (digits l))
-  unfolding longer_of
-  values d [] k = omega arith
-  values d (b ∷ bs) k = go (λ e p. values e bs p) (eqb b 95)
-    where
-      go : ((e : Figures) → e.value ≤ 65536 → (gone_on base e bs).value ≡ min 65536 (value_in base e.value (digits bs)))
-          → (t : Bool) → (gone_on base (grown base d (hex_value b) t) bs).value ≡ min 65536 (value_in base d.value (cond t (digits bs) (hex_value b ∷ digits bs)))
-      go r true = r (grown base d (hex_value b) true) k
-      go r false =
-          r (grown base d (hex_value b) false) (omega arith)
-          ∙ same-value (min 65536 (d.value * base + hex_value b)) (d.value * base + hex_value b) (digits bs) (omega arith)
-
-counts : (base : ℕ) (d : Figures) (l : List ℕ) → d.count ≤ 9 → (gone_on base d l).count ≡ min 9 (d.count + length (digits l))
-unfolding longer_of
-counts base d [] k = omega arith
-counts base d (b ∷ bs) k = go (λ e p. counts base e bs p) (eqb b 95)
-  where
-    go : ((e : Figures) → e.count ≤ 9 → (gone_on base e bs).count ≡ min 9 (e.count + length (digits bs)))
-        → (t : Bool) → (gone_on base (grown base d (hex_value b) t) bs).count ≡ min 9 (d.count + length (cond t (digits bs) (hex_value b ∷ digits bs)))
-    go r true = r (grown base d (hex_value b) true) k
-    go r false = r (grown base d (hex_value b) false) (omega arith) ∙ omega arith
 
 -- a byte has at most eight digits, so that nine and more are alike
 most-few : (base : ℕ) → most base ≤ 8
@@ -111,12 +63,46 @@ valued_same base v n = go (leb v 65535) refl
         let l = leb-false v 65535 q in
         rw (lt-leb (min 65536 v) 65535 (omega arith), q)
 
+valued_alike : (base v w m n : ℕ) → min 65536 v ≡ min 65536 w → min 9 m ≡ min 9 n → valued_of base v m ≡ valued_of base w n
+valued_alike base v w m n e f = sym (valued_same base v m) ∙ rw (e, f) (valued_same base w n)
+
+-- what is made of the digits read so far and of the bytes to come
+module _ (base : ℕ) (h : 1 ≤ base) (k : base ≤ 16) where
+  abbrev said : Figures → List ℕ → Result Value Fault
+  said d l = cond (grouped base d.digit l) (valued_of base (value_in base d.value (digits l)) (d.count + length (digits l))) (Err Bad)
+
+  judges-on : (d : Figures) (l : List ℕ) → judged_of base (gone_on base d l) ≡ said d l
+  unfolding judged_of longer_of
+  judges-on d [] = rw (add-zero d.count)
+  judges-on d (b ∷ bs) = go (λ e. judges-on e bs) (eqb b 95) (hex_value b)
+    where
+      dashed : ((e : Figures) → judged_of base (gone_on base e bs) ≡ said e bs) → (t : Bool)
+          → judged_of base (on_from (cond t (Some (record { value = d.value; count = d.count; digit = false })) None) (λ e. gone_on base e bs))
+          ≡ cond (t && grouped base false bs) (valued_of base (value_in base d.value (digits bs)) (d.count + length (digits bs))) (Err Bad)
+      dashed r true = r (record { value = d.value; count = d.count; digit = false })
+      dashed r false = refl
+
+      figured : ((e : Figures) → judged_of base (gone_on base e bs) ≡ said e bs) → (x : ℕ) (t : Bool)
+          → judged_of base (on_from (cond t (Some (record { value = min 65536 (d.value * base + x); count = min 9 (d.count + 1); digit = true })) None) (λ e. gone_on base e bs))
+          ≡ cond (t && grouped base true bs) (valued_of base (value_in base (d.value * base + x) (digits bs)) (d.count + suc (length (digits bs)))) (Err Bad)
+      figured r x false = refl
+      figured r x true =
+          r (record { value = min 65536 (d.value * base + x); count = min 9 (d.count + 1); digit = true })
+          ∙ ap (λ (v : Result Value Fault). cond (grouped base true bs) v (Err Bad))
+          (valued_alike base _ _ _ _ (same-value base h (min 65536 (d.value * base + x)) (d.value * base + x) (digits bs) (omega arith)) (omega arith))
+
+      go : ((e : Figures) → judged_of base (gone_on base e bs) ≡ said e bs) → (t : Bool) (x : Option ℕ)
+          → judged_of base (on_from (cond t (cond d.digit (Some (record { value = d.value; count = d.count; digit = false })) None) (with_figure base d x)) (λ e. gone_on base e bs))
+          ≡ cond (cond t (d.digit && grouped base false bs) (ltb (worth x) base && grouped base true bs))
+          (valued_of base (value_in base d.value (cond t (digits bs) (worth x ∷ digits bs))) (d.count + length (cond t (digits bs) (worth x ∷ digits bs)))) (Err Bad)
+      go r true x = dashed r d.digit
+      go r false None = rw (le-ltb 16 base k)
+      go r false (Some x) = figured r x (ltb x base)
+
 -- what is made of the digits is what they say
-pub judges : (base : ℕ) (l : List ℕ) → 1 ≤ base → judged_of base (figures_of base l) ≡ unsigned_in base l
-unfolding judged_of unsigned_in
-judges base l h =
-    rw (sounds base no_figures l, values base h no_figures l (omega arith), counts base no_figures l (omega arith))
-    (ap (λ (r : Read). cond (grouped base false l) r Bad) (ap (λ (k : ℕ). valued_of base (min 65536 (value_in base 0 (digits l))) (min 9 k)) (zero-add (length (digits l))) ∙ valued_same base (value_in base 0 (digits l)) (length (digits l))))
+pub judges : (base : ℕ) (l : List ℕ) → 1 ≤ base → base ≤ 16 → judged_of base (figures_of base l) ≡ unsigned_in base l
+unfolding unsigned_in
+judges base l h k = rw (zero-add (length (digits l))) at (judges-on base h k no_figures l)
 
 -- a word of fewer than two bytes names no base
 pub short-word : (w : List ℕ) → length w < 2 → unsigned_in 10 w ≡ unsigned_of w
@@ -126,21 +112,3 @@ short-word w h = let e : get_or w 1 0 ≡ 0 = get_or-eq_default w 0 (omega arith
     alike : (t : Bool) → cond {A = ℕ} t 10 10 ≡ 10
     alike true = refl
     alike false = refl
-
--- a word that names none
-pub plain_word : (w : List ℕ) → base_of w ≡ 10 → unsigned_in 10 w ≡ unsigned_of w
-plain_word w e = sym (rw (e))
-
--- a word that names one
-pub started-word : (w : List ℕ) → (base_of w ≡ 10 → ⊥) → unsigned_in (base_of w) (drop 2 w) ≡ unsigned_of w
-started-word w n = sym (rw (ne_eqb (base_of w) 10 n))
-
--- what is lent from a place on
-pub lent : (w : List ℕ) (k : ℕ) → take (length w - k) (drop k w) ≡ drop k w
-lent w k = take_all (length w - k) (drop k w) (simp length-drop (omega arith))
-
--- no bytes are no number
-pub no_bytes : (w : List ℕ) → length w ≡ 0 → Bad ≡ number_of w
-unfolding number_of unsigned_in base_by
-no_bytes [] e = refl
-no_bytes (b ∷ bs) e = absurd (omega (arith, e))

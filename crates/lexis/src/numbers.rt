@@ -1,11 +1,9 @@
 // Numbers: decimal, hexadecimal (0x) and binary (0b), in groups, with a minus sign; and characters in quotes.
 ghost use Rattle.std.specs.Prelude.{◌≡◌, ◌+◌, ◌*◌, ◌≤◌, min};
-ghost use Rattle.lexis.specs.Numbers.{most as most_of, valued_of, unsigned_in, base_by, unsigned_of, minus_of, negated as negated_of, of_chars, character_of, number_of};
+ghost use Rattle.lexis.specs.Numbers.{most as most_of, valued_of, unsigned_in, base_by, unsigned_of, minus_of, of_chars, character_of, number_of};
 ghost use Rattle.quoted.specs.Quoted.{meant};
 ghost use Rattle.lexis.specs.Code.{longer_of, figures_of, judged_of, chars_value};
 ghost use Rattle.quoted.specs.declared.Mode.TheVariants.{Plain};
-
-use quoted::Chars;
 
 // A number's 16 bits; whether it is stored as a word; whether it had a minus sign.
 #[derive(Clone, Copy)]
@@ -15,21 +13,20 @@ pub struct Value {
     pub negative: bool,
 }
 
+// Why a word is no value: it is no number, or its value does not fit 16 bits.
 #[derive(Clone, Copy)]
-pub enum Read {
-    Is(Value),
+pub enum Fault {
     Bad,
     TooLarge,
 }
 
 // The digits read so far: their value, where 65,536 stands for all that is more; their number, where 9 stands for more; whether the last byte was a
-// digit; whether each byte was where it may stand.
+// digit. The caps are no codes: a sum goes on from them as from any number, and what is too large may still be no number.
 #[derive(Clone, Copy)]
 struct Figures {
     value: u32,
     count: u8,
     digit: bool,
-    sound: bool,
 }
 
 fn with_digit(value: u32, base: u8, x: u8) -> u32
@@ -39,8 +36,7 @@ fn with_digit(value: u32, base: u8, x: u8) -> u32
     if 65536 <= value {
         return 65536;
     }
-    let v = value * (base as u32) + x as u32;
-    if v < 65536 { v } else { 65536 }
+    (value * (base as u32) + x as u32).min(65536)
 }
 
 fn one_more(count: u8) -> u8
@@ -49,31 +45,31 @@ fn one_more(count: u8) -> u8
     if count < 9 { count + 1 } else { 9 }
 }
 
-// One byte more.
-fn longer(d: Figures, base: u8, b: u8) -> Figures
+// One byte more; None where it may not stand there.
+#[tactic(auto, unfolding(crate::specs::Code::longer_of))]
+fn longer(d: Figures, base: u8, b: u8) -> Option<Figures>
     requires { (1 ≤ base) × (base ≤ 16) }
     ensures { result ≡ longer_of base d b }
 {
-    if b == 95 {
-        return Figures {
-            value: d.value,
-            count: d.count,
-            digit: false,
-            sound: d.sound & d.digit,
+    if b == b'_' {
+        return if d.digit {
+            Some(Figures { digit: false, ..d })
+        } else {
+            None
         };
     }
-    let x = letters::hex_value(b);
-    let value = with_digit(d.value, base, x);
-    let count = one_more(d.count);
-    Figures {
-        value,
-        count,
-        digit: true,
-        sound: d.sound & (x < base),
+    let x = letters::hex_value(b)?;
+    if base <= x {
+        return None;
     }
+    Some(Figures {
+        value: with_digit(d.value, base, x),
+        count: one_more(d.count),
+        digit: true,
+    })
 }
 
-fn counted_up(text: &[u8], base: u8) -> Figures
+fn counted_up(text: &[u8], base: u8) -> Option<Figures>
     requires { (1 ≤ base) × (base ≤ 16) }
     ensures { result ≡ figures_of base text.now }
 {
@@ -81,68 +77,66 @@ fn counted_up(text: &[u8], base: u8) -> Figures
         value: 0,
         count: 0,
         digit: false,
-        sound: true,
     };
-    let mut i: usize = 0;
-    while i < text.len() {
-        d = longer(d, base, text[i]);
-        i += 1;
+    for &b in text {
+        d = longer(d, base, b)?;
     }
-    d
+    Some(d)
 }
 
 // How many digits of a base make a byte.
+#[tactic(auto, unfolding(crate::specs::Numbers::most))]
 fn most(base: u8) -> u8
     ensures { result ≡ most_of base }
 {
-    if base == 2 {
-        return 8;
+    match base {
+        2 => 8,
+        16 => 2,
+        _ => 3,
     }
-    if base == 16 {
-        return 2;
-    }
-    3
 }
 
 // A value of so many digits.
-fn valued(v: u32, base: u8, count: u8) -> Read
+#[tactic(auto, unfolding(crate::specs::Numbers::valued_of))]
+fn valued(v: u32, base: u8, count: u8) -> Result<Value, Fault>
     ensures { result ≡ valued_of base v count }
 {
     if 65535 < v {
-        return Read::TooLarge;
+        return Err(Fault::TooLarge);
     }
-    let word = (255 < v) | (most(base) < count);
-    Read::Is(Value {
+    Ok(Value {
         bits: v as u16,
-        word,
+        word: (255 < v) | (most(base) < count),
         negative: false,
     })
 }
 
-fn judged(d: Figures, base: u8) -> Read
+#[tactic(auto, unfolding(crate::specs::Code::judged_of))]
+fn judged(d: Option<Figures>, base: u8) -> Result<Value, Fault>
     ensures { result ≡ judged_of base d }
 {
-    if d.sound & d.digit {
-        return valued(d.value, base, d.count);
+    match d {
+        Some(d) if d.digit => valued(d.value, base, d.count),
+        _ => Err(Fault::Bad),
     }
-    Read::Bad
 }
 
-fn minus(bits: u16) -> Read
+#[tactic(auto, unfolding(crate::specs::Numbers::minus_of))]
+fn minus(bits: u16) -> Result<Value, Fault>
     ensures { result ≡ minus_of bits }
 {
     if 32768 < bits {
-        return Read::TooLarge;
+        return Err(Fault::TooLarge);
     }
-    Read::Is(Value {
-        bits: ((65536 - bits as u32) % 65536) as u16,
+    Ok(Value {
+        bits: bits.wrapping_neg(),
         word: true,
         negative: true,
     })
 }
 
 // A number of a base, without its start.
-fn in_base(text: &[u8], base: u8) -> Read
+fn in_base(text: &[u8], base: u8) -> Result<Value, Fault>
     requires { (1 ≤ base) × (base ≤ 16) }
     ensures { result ≡ unsigned_in base text.now }
 {
@@ -150,25 +144,20 @@ fn in_base(text: &[u8], base: u8) -> Read
 }
 
 // The base that the first two bytes name.
+#[tactic(auto, unfolding(crate::specs::Numbers::base_by))]
 fn base_by(first: u8, second: u8) -> u8
     ensures value { result ≡ base_by first second }
     ensures in_range { (1 ≤ result) × (result ≤ 16) }
 {
-    if first != 48 {
-        return 10;
+    match (first, letters::lower(second)) {
+        (b'0', b'x') => 16,
+        (b'0', b'b') => 2,
+        _ => 10,
     }
-    let kind = letters::lower(second);
-    if kind == 120 {
-        return 16;
-    }
-    if kind == 98 {
-        return 2;
-    }
-    10
 }
 
 // A number without a sign.
-pub fn unsigned(word: &[u8]) -> Read
+pub fn unsigned(word: &[u8]) -> Result<Value, Fault>
     ensures { result ≡ unsigned_of word.now }
 {
     if word.len() < 2 {
@@ -179,16 +168,6 @@ pub fn unsigned(word: &[u8]) -> Read
         return in_base(word, 10);
     }
     in_base(&word[2..], base)
-}
-
-fn negated(r: Read) -> Read
-    ensures { result ≡ negated_of r }
-{
-    match r {
-        Read::Is(v) => minus(v.bits),
-        Read::Bad => Read::Bad,
-        Read::TooLarge => Read::TooLarge,
-    }
 }
 
 // One or two characters, or none.
@@ -202,48 +181,36 @@ fn of_chars(first: u8, second: u8, n: usize) -> Value
     }
 }
 
-// What stands between two single quotes.
-fn character(inside: &[u8]) -> Read
+// What stands between two single quotes; more than two characters are no constant either.
+fn character(inside: &[u8]) -> Result<Value, Fault>
     ensures { result ≡ of_chars (meant 39 Plain inside.now) }
 {
     let mut two = [0u8; 2];
-    match quoted::read(39, inside, &mut two) {
-        Chars::Are(n) => Read::Is(of_chars(two[0], two[1], n)),
-        Chars::Bad => Read::Bad,
-        Chars::NoRoom => Read::Bad,
+    match quoted::read(b'\'', inside, &mut two) {
+        Ok(n) => Ok(of_chars(two[0], two[1], n)),
+        Err(_) => Err(Fault::Bad),
     }
 }
 
 // A character constant, quotes and all.
-pub fn constant(word: &[u8]) -> Read
+#[tactic(auto, unfolding(crate::specs::Numbers::character_of))]
+pub fn constant(word: &[u8]) -> Result<Value, Fault>
     ensures { result ≡ character_of word.now }
 {
-    if word.len() < 2 {
-        return Read::Bad;
+    match word {
+        [b'\'', inside @ .., b'\''] => character(inside),
+        _ => Err(Fault::Bad),
     }
-    if word[0] != 39 {
-        return Read::Bad;
-    }
-    let last = word.len() - 1;
-    if word[last] != 39 {
-        return Read::Bad;
-    }
-    character(&word[1..last])
 }
 
 // A number, with or without a minus sign, or a character constant: a value of the debugger.
-pub fn number(word: &[u8]) -> Read
+#[tactic(auto, unfolding(crate::specs::Numbers::number_of))]
+pub fn number(word: &[u8]) -> Result<Value, Fault>
     ensures { result ≡ number_of word.now }
 {
-    if word.len() == 0 {
-        return Read::Bad;
+    match word {
+        [b'\'', ..] => constant(word),
+        [b'-', rest @ ..] => minus(unsigned(rest)?.bits),
+        _ => unsigned(word),
     }
-    let first = word[0];
-    if first == 39 {
-        return constant(word);
-    }
-    if first == 45 {
-        return negated(unsigned(&word[1..]));
-    }
-    unsigned(word)
 }

@@ -4,6 +4,8 @@
 pub mod input;
 
 ghost use Rattle.std.specs.Prelude.{◌≡◌, ◌+◌, ◌*◌, ◌%◌};
+ghost use Rattle.std.specs.List.{fold};
+ghost use Rattle.report.specs.Digest.{absorbed};
 
 // Where the output takes no more, the rest is let go: nobody is left to be told.
 pub fn text(rt: &impl Print, bytes: &[u8]) {
@@ -32,12 +34,8 @@ pub fn decimal(rt: &impl Print, n: u64) {
 
 // A name that is kept as one number, its first byte lowest.
 pub fn name(rt: &impl Print, key: u64) {
-    let mut rest = key;
-    while rest != 0 {
-        let one = [(rest % 256) as u8];
-        text(rt, &one);
-        rest = rest / 256;
-    }
+    let unused = key.leading_zeros() as usize / 8;
+    text(rt, &key.to_le_bytes()[..8 - unused]);
 }
 
 // The digest with one number more.
@@ -59,4 +57,26 @@ pub fn absorb_byte(digest: u64, b: u8) -> u64
     ensures { result ≡ (digest % 4294967291 * 65599 + b) % 4294967291 }
 {
     absorb(digest, b as u16)
+}
+
+// The digest with each byte more, in their order. Bytes and words have a function each: one over both would promise by what `From` gives, and say no more.
+pub fn absorb_bytes(digest: u64, bytes: &[u8]) -> u64
+    ensures { result ≡ fold absorbed digest bytes.now }
+{
+    let mut all = digest;
+    for &b in bytes {
+        all = absorb_byte(all, b);
+    }
+    all
+}
+
+// The same of words.
+pub fn absorb_words(digest: u64, words: &[u16]) -> u64
+    ensures { result ≡ fold absorbed digest words.now }
+{
+    let mut all = digest;
+    for &w in words {
+        all = absorb(all, w);
+    }
+    all
 }
