@@ -12,7 +12,7 @@ use lib.ListN.{length, get_or, take, drop, drop_of_length-le}
 use lib.Seq.{drop-cons, take_all}
 use Rattle.manifests.specs.Manifests.{is_digit, all_digits, value_after, number_of}
 use Rattle.manifests.specs.Code.{digits_of, read_digits}
-use Rattle.manifests.specs.declared.Number.TheVariants.{Is, Not}
+use Rattle.std.specs.Prelude.{Some, None}
 
 pub never : {A : Type 0} → false ≡ true → A
 never e = let z : ◌≡◌ {A = ℕ} 0 1 = ap (λ (t : Bool). cond t 1 0) e in absurd (omega arith)
@@ -86,11 +86,13 @@ module _ (s : List ℕ) (n : ℕ) where
       let k : 9 - n ≡ suc (9 - (n + 1)) = omega arith in
       rw (k, drop-cons s n 0 h, e)
 
-  pub digits-past : n < 9 → length s ≤ n → digits_of (9 - n) (drop n s) ≡ []
+  pub digits-past : length s ≤ n → digits_of (9 - n) (drop n s) ≡ []
   unfolding digits_of
-  digits-past g h =
-      let k : 9 - n ≡ suc (9 - (n + 1)) = omega arith in
-      rw (k, drop_of_length-le s h)
+  digits-past h = rw (drop_of_length-le s h) (nothing (9 - n))
+    where
+      nothing : (k : ℕ) → digits_of k [] ≡ []
+      nothing zero = refl
+      nothing (suc k) = refl
 
   pub digits-nine : 9 ≤ n → digits_of (9 - n) (drop n s) ≡ []
   unfolding digits_of
@@ -134,24 +136,24 @@ module _ (s : List ℕ) where
       let q = both (leb 1 (length s)) (leb (length s) 9) p.0 in
       (leb-true 1 (length s) q.0, digits-all 9 s (leb-true (length s) 9 q.1) p.1)
 
-  not-number : ((1 ≤ length s) × (digits_of 9 s ≡ s) → ⊥) → number_of s ≡ Not
+  not-number : ((1 ≤ length s) × (digits_of 9 s ≡ s) → ⊥) → number_of s ≡ None
   unfolding number_of
   not-number f = go (fits && all_digits s) refl
     where
-      go : (t : Bool) → (fits && all_digits s) ≡ t → cond (fits && all_digits s) (Is (value_after 0 s)) Not ≡ Not
+      go : (t : Bool) → (fits && all_digits s) ≡ t → cond (fits && all_digits s) (Some (value_after 0 s)) None ≡ None
       go true e = absurd (f (is_number e))
       go false e = rw e
 
-  pub number-long : 9 < length s → Not ≡ number_of s
+  pub number-long : 9 < length s → None ≡ number_of s
   number-long h = sym (not-number (λ p. omega (arith, ap length p.1, digits-few 9 s)))
 
-  pub number-none : length (digits_of 9 s) ≡ 0 → Not ≡ number_of s
+  pub number-none : length (digits_of 9 s) ≡ 0 → None ≡ number_of s
   number-none h = sym (not-number (λ p. omega (arith, ap length p.1)))
 
-  pub number_short : length (digits_of 9 s) < length s → Not ≡ number_of s
+  pub number_short : length (digits_of 9 s) < length s → None ≡ number_of s
   number_short h = sym (not-number (λ p. omega (arith, ap length p.1)))
 
-  pub number_is : (length (digits_of 9 s) ≡ 0 → ⊥) → length s ≤ length (digits_of 9 s) → Is (value_after 0 (digits_of 9 s)) ≡ number_of s
+  pub number_is : (length (digits_of 9 s) ≡ 0 → ⊥) → length s ≤ length (digits_of 9 s) → Some (value_after 0 (digits_of 9 s)) ≡ number_of s
   unfolding number_of
   number_is n h =
       let e : digits_of 9 s ≡ s = sym (digits-taken 9 s) ∙ take_all (length (digits_of 9 s)) s h in

@@ -1,33 +1,30 @@
 -- Tables of heads: what each head is, and that lines looked through from the later one of two heads give the place that all lines give.
-use Prim.Native.Nat.{ℕ, ◌+◌, ◌-◌, ◌/◌, ◌%◌, ◌≤◌, ◌<◌}
+use Prim.Native.Nat.{ℕ, ◌+◌, ◌-◌, ◌/◌, ◌%◌, ◌≤◌, ◌<◌, max}
 use mathlib.Core.Path.{◌≡◌, refl, sym, ap, ◌∙◌}
 use mathlib.Core.Bool.{Bool, true, false, cond}
-use mathlib.Core.List.{List, [], ◌∷◌, ◌++◌, append-nil}
+use mathlib.Core.List.{List, [], ◌∷◌, ◌++◌}
 use native.Mathlib.Omega.{arith}
 use native.Mathlib.Nat.{mod-lt}
-use borrow.Author.Tests.{eqb-true, eqb-false, eq-eqb, ne_eqb}
-use borrow.Rule.Slice.PartMut.{mid_of, post_of, put_mid}
+use borrow.Author.Tests.{eqb-true, eqb-false, eq-eqb, ne_eqb, ltb-true, ltb-false}
 use lib.Dec.{eqb, ltb}
-use lib.ListN.{length, get_or, set, take, drop, replicate, length-set, length-append, length-take, length-drop, drop_of_length-le, length-replicate, get_or-replicate}
+use lib.ListN.{length, get_or, set, take, drop, replicate, length-set, length-append, length-replicate, get_or-replicate}
 use lib.Seq.{get_or-set_same, get_or-set_other, take-append_seam, drop-append_seam}
 use Rattle.manifests.specs.Manifests.{lines, is_number, number_of, place_among, place_of, by_number, held_of}
 use Rattle.manifests.specs.Code.{key_of, first_line, front_of, line_end, place_from, noted, noted_all, table_of, heads_of, head_in, later_of, head_by, by_heads, held_from, HeadsOf}
-use Rattle.manifests.specs.declared.Number.{Number}
-use Rattle.manifests.specs.declared.Number.TheVariants.{Is, Not}
+use Rattle.std.specs.Prelude.{Option, Some, None}
 use Rattle.manifests.specs.declared.fronts.Front.{Front}
 use Rattle.manifests.proofs.Lined.{LineAt, over-lines, one_line, no_line}
-use Rattle.manifests.proofs.Parts.{lent}
 use Rattle.manifests.proofs.Keys.{key-matches, look-past, key-got, got-end}
 
 -- ---- the table's length
-pub noted-length : (size at : ℕ) (k : Number) (t : List ℕ) → length (noted size at k t) ≡ length t
+pub noted-length : (size at : ℕ) (k : Option ℕ) (t : List ℕ) → length (noted size at k t) ≡ length t
 unfolding noted
-noted-length size at (Is n) t = go (eqb (get_or t (n % length t) 0) size)
+noted-length size at (Some n) t = go (eqb (get_or t (n % length t) 0) size)
   where
     go : (b : Bool) → length (cond b (set t (n % length t) at) t) ≡ length t
     go true = length-set t (n % length t) at
     go false = refl
-noted-length size at Not t = refl
+noted-length size at None t = refl
 
 noted-all-length : (size at : ℕ) (ls : List (List ℕ)) (t : List ℕ) → length (noted_all size at ls t) ≡ length t
 unfolding noted_all
@@ -57,9 +54,9 @@ no-heads s = sym (nothing (heads_of 0 s) (heads-length 0 s))
 
 -- ---- what each head is
 -- a number has the remainder m of k
-abbrev pub leaves : ℕ → ℕ → Number → Bool
-leaves k m (Is n) = eqb (n % k) m
-leaves k m Not = false
+abbrev pub leaves : ℕ → ℕ → Option ℕ → Bool
+leaves k m (Some n) = eqb (n % k) m
+leaves k m None = false
 
 -- where the first line begins whose number does, of lines the first of which begins at a place
 unfoldable pub first_head : ℕ → ℕ → ℕ → ℕ → List (List ℕ) → ℕ
@@ -72,11 +69,11 @@ module _ (size at m : ℕ) (h : at < size) where
   abbrev kept : ℕ → ℕ → ℕ
   kept later x = cond (eqb x size) later x
 
-  after : (k : Number) (t : List ℕ) (later : ℕ) → m < length t
+  after : (k : Option ℕ) (t : List ℕ) (later : ℕ) → m < length t
       → kept later (get_or (noted size at k t) m 0) ≡ kept (cond (leaves (length t) m k) at later) (get_or t m 0)
   unfolding noted
-  after Not t later g = refl
-  after (Is n) t later g = go (n % length t) (eqb (get_or t (n % length t) 0) size) refl (eqb (n % length t) m) refl
+  after None t later g = refl
+  after (Some n) t later g = go (n % length t) (eqb (get_or t (n % length t) 0) size) refl (eqb (n % length t) m) refl
     where
       go : (j : ℕ) (b : Bool) → eqb (get_or t j 0) size ≡ b → (u : Bool) → eqb j m ≡ u
           → kept later (get_or (cond b (set t j at) t) m 0) ≡ kept (cond u at later) (get_or t m 0)
@@ -126,9 +123,9 @@ module _ (s : List ℕ) (m : ℕ) where
 -- ---- a look-up that begins at a head
 module _ (s : List ℕ) (k n : ℕ) where
   -- a line with the number has its remainder
-  passes : (x : Number) → leaves k (n % k) x ≡ false → is_number n x ≡ false
-  passes (Is m) e = ne_eqb m n (λ z. eqb-false (m % k) (n % k) e (ap (λ (i : ℕ). i % k) z))
-  passes Not e = refl
+  passes : (x : Option ℕ) → leaves k (n % k) x ≡ false → is_number n x ≡ false
+  passes (Some m) e = ne_eqb m n (λ z. eqb-false (m % k) (n % k) e (ap (λ (i : ℕ). i % k) z))
+  passes None e = refl
 
   abbrev Begun : ℕ → List (List ℕ) → Type 0
   Begun at ls = place_from n s (first_head k (n % k) (length s) at ls) ≡ place_among n at ls
@@ -206,58 +203,42 @@ pub headed-held : (line today heads last more : List ℕ) → HeadsOf today head
 unfolding held_from held_of
 headed-held line today heads last more e f = go (number_of line)
   where
-    go : (k : Number) → by_heads k today heads last more ≡ by_number k today last
-    go (Is n) = rw (headed today heads e n, headed last more f n)
-    go Not = refl
+    go : (k : Option ℕ) → by_heads k today heads last more ≡ by_number k today last
+    go (Some n) = rw (headed today heads e n, headed last more f n)
+    go None = refl
 
--- the code's parts of what it is lent are its two halves
-pub by-halves : (t : List ℕ) (n a b r : ℕ) → a ≡ head_in (take (length t / 2 - 0) (drop 0 t)) n → b ≡ head_in (take (length t - length t / 2) (drop (length t / 2) t)) n
-    → r ≡ later_of a b → r ≡ head_by t n
+-- the later of two heads
+pub by-halves : (t u v : List ℕ) (n a b r : ℕ) → u ≡ take (length t / 2) t → v ≡ drop (length t / 2) t → a ≡ head_in u n → b ≡ head_in v n → r ≡ max a b
+    → r ≡ head_by t n
 unfolding head_by
-by-halves t n a b r p q e =
-    let h : length t / 2 - 0 ≡ length t / 2 = omega arith in
-    e ∙ ap (λ (x : ℕ). later_of x b) (p ∙ ap (λ (k : ℕ). head_in (take k t) n) h)
-    ∙ ap (later_of (head_in (take (length t / 2) t) n)) (q ∙ ap (λ (u : List ℕ). head_in u n) (lent t (length t / 2)))
+by-halves t u v n a b r x y p q e =
+    let f = p ∙ ap (λ (w : List ℕ). head_in w n) x in
+    let g = q ∙ ap (λ (w : List ℕ). head_in w n) y in
+    e ∙ rw (f, g) (go (head_in (take (length t / 2) t) n) (head_in (drop (length t / 2) t) n))
+  where
+    go : (a b : ℕ) → max a b ≡ cond (ltb a b) b a
+    go a b = here (ltb a b) refl
+      where
+        here : (s : Bool) → ltb a b ≡ s → max a b ≡ cond s b a
+        here true e = omega (arith, ltb-true a b e)
+        here false e = omega (arith, ltb-false a b e)
 
--- ---- two tables put one after the other, as the code puts them
-module _ (s u a b : List ℕ) where
-  abbrev half : ℕ
-  half = length u / 2
-
-  -- what is lent after the first is filled
-  abbrev between : List ℕ
-  between = a ++ post_of 0 (half - 0) u
-
-  pub two-tables : a ≡ table_of (length (mid_of 0 (half - 0) u)) s → b ≡ table_of (length (mid_of half (length between - half) between)) s
-      → put_mid half (length between - half) between b ≡ heads_of (length u) s
-  unfolding heads_of
-  two-tables e f =
-      let p : length (mid_of 0 (half - 0) u) ≡ half = length-take (half - 0) u ∙ omega arith in
-      let n : length a ≡ half = ap length e ∙ table-length (length (mid_of 0 (half - 0) u)) s ∙ p in
-      let m : length between ≡ length u = length-append a (post_of 0 (half - 0) u) ∙ omega (arith, n, length-drop (half - 0) u) in
-      let l : length (drop half between) ≡ length u - half = length-drop half between ∙ omega (arith, m) in
-      let q : length (mid_of half (length between - half) between) ≡ length u - half =
-      length-take (length between - half) (drop half between) ∙ omega (arith, m, l) in
-      let x : take half between ≡ table_of half s =
-      ap (λ (k : ℕ). take k between) (sym n) ∙ take-append_seam a (post_of 0 (half - 0) u) ∙ e ∙ ap (λ (k : ℕ). table_of k s) p in
-      let y : b ≡ table_of (length u - half) s = f ∙ ap (λ (k : ℕ). table_of k s) q in
-      let g : length (drop half between) ≤ length between - half = omega (arith, m, l) in
-      let z : post_of half (length between - half) between ≡ [] = drop_of_length-le (drop half between) g in
-      rw (x, z, y) (ap (λ (r : List ℕ). table_of half s ++ r) (append-nil (table_of (length u - half) s)))
+-- two tables, of the two parts in which the code lends a slice
+pub two-tables : (s u a b : List ℕ) (k m : ℕ) → k ≡ length u / 2 → k + m ≡ length u → a ≡ table_of k s → b ≡ table_of m s → a ++ b ≡ heads_of (length u) s
+unfolding heads_of
+two-tables s u a b k m p q e f = let n : m ≡ length u - length u / 2 = omega (arith, p, q) in rw (e, f, p, n)
 
 -- ---- the table, line by line
-pub noted-none : (size at : ℕ) (k : Number) (t : List ℕ) → length t ≡ 0 → t ≡ noted size at k t
+pub noted-none : (size at : ℕ) (k : Option ℕ) (t : List ℕ) → length t ≡ 0 → t ≡ noted size at k t
 noted-none size at k t e = nothing t e ∙ sym (nothing (noted size at k t) (noted-length size at k t ∙ e))
 
 -- the lines from a place on, noted
 abbrev pub noted_from : List ℕ → ℕ → List ℕ → List ℕ
 noted_from s at t = noted_all (length s) at (lines (drop at s)) t
 
-pub heads-begin : (s t u : List ℕ) → t ≡ replicate (length u) (length s) → (length t ≡ length u) × (noted_from s 0 t ≡ table_of (length t) s)
+pub heads-begin : (s u : List ℕ) → (length (replicate (length u) (length s)) ≡ length u) × (noted_from s 0 (replicate (length u) (length s)) ≡ table_of (length u) s)
 unfolding table_of
-heads-begin s t u e =
-    let n : length t ≡ length u = ap length e ∙ length-replicate (length u) (length s) in
-    (n, ap (noted_from s 0) (e ∙ ap (λ (k : ℕ). replicate k (length s)) (sym n)))
+heads-begin s u = (length-replicate (length u) (length s), refl)
 
 pub noted-on : (s t : List ℕ) (at : ℕ) (f : Front) (end : ℕ) → f ≡ front_of (take (length s - at) (drop at s)) → at < length s
     → end ≡ line_end s (at + f.read) → noted_from s (end + 1) (noted (length s) at f.number t) ≡ noted_from s at t
@@ -267,7 +248,7 @@ noted-on s t at f end p h q =
     sym
     (ap (λ (ls : List (List ℕ)). noted_all (length s) at ls t) (one_line s at h)
     ∙ ap (λ (i : ℕ). noted_from s i (noted (length s) at (key_of (first_line (drop at s))) t)) a
-    ∙ ap (λ (k : Number). noted_from s (end + 1) (noted (length s) at k t)) (sym (key-got s at f p)))
+    ∙ ap (λ (k : Option ℕ). noted_from s (end + 1) (noted (length s) at k t)) (sym (key-got s at f p)))
 
 pub noted-past : (s t : List ℕ) (at : ℕ) → length s ≤ at → t ≡ noted_from s at t
 unfolding noted_all

@@ -10,9 +10,7 @@ use lib.ListN.{length, get_or, take, drop, length-drop}
 use lib.Seq.{get_or-take}
 use Rattle.manifests.specs.Manifests.{is_digit, all_digits, value_after, number_of, front, is_number, matches, place_among}
 use Rattle.manifests.specs.Code.{digits_of, first_line, line_end, key_of, front_of, place_from}
-use Rattle.manifests.specs.declared.Number.{Number}
-use Rattle.manifests.specs.declared.Number.TheVariants.{Is, Not}
-use Rattle.manifests.specs.declared.Place.TheVariants.{At, Nowhere}
+use Rattle.std.specs.Prelude.{Option, Some, None}
 use Rattle.manifests.proofs.Digits.{never, both, digits-few, digits-short, digits_are}
 use Rattle.manifests.specs.declared.fronts.Front.{Front}
 use Rattle.manifests.proofs.Parts.{lent}
@@ -82,12 +80,12 @@ module _ (l : List ℕ) where
       let q = both (leb 1 (length (front l))) (leb (length (front l)) 9) p.0 in
       (leb-true 1 (length (front l)) q.0, before-tab 9 l h (leb-true (length (front l)) 9 q.1) p.1)
 
-  not-keyed : ((1 ≤ read) × (read < length l) × (get_or l read 0 ≡ 9) → ⊥) → key_of l ≡ Not
+  not-keyed : ((1 ≤ read) × (read < length l) × (get_or l read 0 ≡ 9) → ⊥) → key_of l ≡ None
   unfolding key_of number_of
   not-keyed f = go (ltb (length (front l)) (length l)) refl (fits && all_digits (front l)) refl
     where
       go : (t : Bool) → ltb (length (front l)) (length l) ≡ t → (u : Bool) → (fits && all_digits (front l)) ≡ u
-          → cond t (cond u (Is (value_after 0 (front l))) Not) Not ≡ Not
+          → cond t (cond u (Some (value_after 0 (front l))) None) None ≡ None
       go true p true q =
           let h = ltb-true (length (front l)) (length l) p in
           let k = keyed h q in
@@ -96,7 +94,7 @@ module _ (l : List ℕ) where
       go true p false q = refl
       go false p u q = refl
 
-  is-keyed : 1 ≤ read → read < length l → get_or l read 0 ≡ 9 → key_of l ≡ Is (value_after 0 (digits_of 9 l))
+  is-keyed : 1 ≤ read → read < length l → get_or l read 0 ≡ 9 → key_of l ≡ Some (value_after 0 (digits_of 9 l))
   unfolding key_of number_of
   is-keyed n h e =
       let q = digits-few 9 l in
@@ -108,7 +106,7 @@ module _ (l : List ℕ) where
   keyed-read n = go (ltb (length (front l)) (length l)) refl (fits && all_digits (front l)) refl
     where
       go : (t : Bool) → ltb (length (front l)) (length l) ≡ t → (u : Bool) → (fits && all_digits (front l)) ≡ u
-          → is_number n (cond t (cond u (Is (value_after 0 (front l))) Not) Not) ≡ true → length (front l) ≡ read
+          → is_number n (cond t (cond u (Some (value_after 0 (front l))) None) None) ≡ true → length (front l) ≡ read
       go true p true q e = sym (ap length (keyed (ltb-true (length (front l)) (length l) p) q).1)
       go true p false q e = never e
       go false p u q e = never e
@@ -117,7 +115,7 @@ module _ (l : List ℕ) where
   unfolding matches key_of
   key-matches n = go (ltb (length (front l)) (length l))
     where
-      go : (t : Bool) → (t && is_number n (number_of (front l))) ≡ is_number n (cond t (number_of (front l)) Not)
+      go : (t : Bool) → (t && is_number n (number_of (front l))) ≡ is_number n (cond t (number_of (front l)) None)
       go true = refl
       go false = refl
 
@@ -159,23 +157,23 @@ module _ (s : List ℕ) where
   in-first : (k : ℕ) → k < length l → get_or l k 0 ≡ get_or s k 0
   in-first k h = ap (λ (r : List ℕ). get_or r k 0) (sym (first_taken s)) ∙ get_or-take (length l) s k 0 h
 
-  pub front-none : n ≡ 0 → Not ≡ key_of l
+  pub front-none : n ≡ 0 → None ≡ key_of l
   front-none e = sym (not-keyed l (λ p. omega (arith, same, p.0)))
 
-  pub front-past : length s ≤ n → Not ≡ key_of l
+  pub front-past : length s ≤ n → None ≡ key_of l
   front-past h = sym (not-keyed l (λ p. omega (arith, same, first_short s, p.1)))
 
-  pub front-other : (get_or s n 0 ≡ 9 → ⊥) → Not ≡ key_of l
+  pub front-other : (get_or s n 0 ≡ 9 → ⊥) → None ≡ key_of l
   front-other f =
       sym (not-keyed l (λ p. f (sym (in-first n (omega (arith, same, p.1))) ∙ ap (λ (k : ℕ). get_or l k 0) (sym same) ∙ p.2)))
 
-  pub front-is : (n ≡ 0 → ⊥) → n < length s → get_or s n 0 ≡ 9 → Is (value_after 0 (digits_of 9 s)) ≡ key_of l
+  pub front-is : (n ≡ 0 → ⊥) → n < length s → get_or s n 0 ≡ 9 → Some (value_after 0 (digits_of 9 s)) ≡ key_of l
   front-is f h e = go (ltb n (length l)) refl
     where
-      go : (t : Bool) → ltb n (length l) ≡ t → Is (value_after 0 (digits_of 9 s)) ≡ key_of l
+      go : (t : Bool) → ltb n (length l) ≡ t → Some (value_after 0 (digits_of 9 s)) ≡ key_of l
       go true p =
           let b = ltb-true n (length l) p in
-          ap (λ (d : List ℕ). Is (value_after 0 d)) (sym (digits-of-first 9 s))
+          ap (λ (d : List ℕ). Some (value_after 0 d)) (sym (digits-of-first 9 s))
           ∙ sym (is-keyed l (omega (arith, same, f)) (omega (arith, same)) (ap (λ (k : ℕ). get_or l k 0) same ∙ in-first n b ∙ e))
       go false p =
           let b = ltb-false n (length l) p in
@@ -183,7 +181,7 @@ module _ (s : List ℕ) where
           let r : ◌≡◌ {A = ℕ} 9 10 = sym e ∙ ap (λ (k : ℕ). get_or s k 0) (sym q) ∙ first_ended s (omega (arith, h)) in
           absurd (omega (arith, r))
 
-  pub fronted : {k : Number} {r : ℕ} → k ≡ key_of l → r ≡ n → record { number = k; read = r } ≡ front_of s
+  pub fronted : {k : Option ℕ} {r : ℕ} → k ≡ key_of l → r ≡ n → record { number = k; read = r } ≡ front_of s
   fronted p q = cc
 
 -- ---- the line at a place, whose front was read
@@ -207,7 +205,7 @@ module _ (s : List ℕ) (at : ℕ) (f : Front) (p : f ≡ front_of (take (length
   got-end = same_end s at f.read (omega (arith, read-got, read-within (drop at s)))
 
   module _ (n end : ℕ) (h : at < length s) (q : end ≡ line_end s (at + f.read)) where
-    pub look-here : is_number n f.number ≡ true → At (at + f.read + 1) end ≡ place_from n s at
+    pub look-here : is_number n f.number ≡ true → Some (record { from = at + f.read + 1; to = end }) ≡ place_from n s at
     unfolding place_among
     look-here e =
         let m : is_number n (key_of line) ≡ true = ap (is_number n) (sym key-got) ∙ e in
@@ -221,6 +219,6 @@ module _ (s : List ℕ) (at : ℕ) (f : Front) (p : f ≡ front_of (take (length
         let a : at + (length line + 1) ≡ end + 1 = omega (arith, q, got-end) in
         sym (rw (one_line s at h, key-matches line n, m, a))
 
-pub look-past : (s : List ℕ) (at n : ℕ) → length s ≤ at → Nowhere ≡ place_from n s at
+pub look-past : (s : List ℕ) (at n : ℕ) → length s ≤ at → None ≡ place_from n s at
 unfolding place_among
 look-past s at n h = sym (rw (no_line s at h))

@@ -4,11 +4,14 @@ use mathlib.Core.Path.{◌≡◌, refl, sym, ap, subst, ◌∙◌}
 use mathlib.Core.Bool.{Bool, true, false, cond}
 use mathlib.Core.List.{List, [], ◌∷◌}
 use native.Mathlib.Omega.{arith}
-use native.Mathlib.Numerals.{add-one}
-use borrow.Author.Tests.{eq-eqb, ne_eqb, ltb-true, ltb-false}
+use borrow.Author.Tests.{ltb-true, ltb-false}
 use lib.Dec.{eqb, ltb}
 use lib.ListN.{length, get_or, take, drop, length-drop, drop_of_length-le}
 use lib.Seq.{drop-cons, drop-drop}
+use Rattle.std.specs.Prelude.{Option, Some, None, unwrap_or}
+use Rattle.std.specs.List.{position_or_len}
+use Rattle.std.proofs.lemmas.List.Recursion.{is_position_or_len}
+use Rattle.manifests.proofs.Parts.{lent}
 use Rattle.manifests.specs.Manifests.{lines, joined}
 use Rattle.manifests.specs.Code.{first_line, line_end}
 
@@ -88,19 +91,40 @@ next-line s i e h p =
     let b : i + (length l + 1) ≡ e + 1 = omega (arith, p) in
     one_line s i h ∙ rw (b, ← first_taken (drop i s), a)
 
--- ---- `line_end`, byte by byte
-module _ (s : List ℕ) (i : ℕ) where
-  pub end-here : i < length s → get_or s i 0 ≡ 10 → line_end s i ≡ i
-  unfolding line_end first_line
-  end-here h e = rw (drop-cons s i 0 h, eq-eqb (get_or s i 0) 10 e) (omega arith)
+-- ---- `line_end`, by the first LF
+abbrev pub is_lf : ℕ → Bool
+is_lf b = eqb b 10
 
-  pub end-next : i < length s → (get_or s i 0 ≡ 10 → ⊥) → line_end s (i + 1) ≡ line_end s i
-  unfolding line_end first_line
-  end-next h n = rw (drop-cons s i 0 h, ne_eqb (get_or s i 0) 10 n, add-one i) (omega arith)
+first-position : (s : List ℕ) → length (first_line s) ≡ position_or_len is_lf s
+unfolding first_line
+first-position = is_position_or_len (λ (s : List ℕ). length (first_line s)) is_lf refl more
+  where
+    more : (x : ℕ) (s : List ℕ) → length (first_line (x ∷ s)) ≡ cond (is_lf x) 0 (1 + length (first_line s))
+    more x s = go (is_lf x)
+      where
+        go : (t : Bool) → length (cond t [] (x ∷ first_line s)) ≡ cond t 0 (1 + length (first_line s))
+        go true = refl
+        go false = omega arith
 
-  pub end-past : length s ≤ i → line_end s i ≡ i
-  unfolding line_end first_line
-  end-past h = rw (drop_of_length-le s h) (omega arith)
+pub end-past : (s : List ℕ) (i : ℕ) → length s ≤ i → line_end s i ≡ i
+unfolding line_end first_line
+end-past s i h = rw (drop_of_length-le s h) (omega arith)
+
+-- what the code finds in what it lends from a place on
+module _ (s : List ℕ) (at : ℕ) (found : Option ℕ) (n : ℕ) where
+  abbrev rest : List ℕ
+  rest = take (length s - at) (drop at s)
+
+  abbrev p : ℕ
+  p = position_or_len is_lf rest
+
+  pub end-at : found ≡ cond (ltb p (length rest)) (Some p) None → n ≡ unwrap_or found (length rest) → at + n ≡ line_end s at
+  unfolding line_end
+  end-at e f = ap (λ (k : ℕ). at + k) (f ∙ ap (λ (o : Option ℕ). unwrap_or o (length rest)) e ∙ go (ltb p (length rest)) refl) ∙ ap (λ (r : List ℕ). at + length (first_line r)) (lent s at)
+    where
+      go : (t : Bool) → ltb p (length rest) ≡ t → unwrap_or (cond t (Some p) None) (length rest) ≡ length (first_line rest)
+      go true q = sym (first-position rest)
+      go false q = omega (arith, ltb-false p (length rest) q, first-position rest, first_short rest)
 
 -- a line has one end, from wherever in it
 pub same_end : (s : List ℕ) (i k : ℕ) → k ≤ length (first_line (drop i s)) → line_end s (i + k) ≡ i + length (first_line (drop i s))

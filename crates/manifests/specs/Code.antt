@@ -1,11 +1,8 @@
 -- How the code reads a manifest: the digits in front of a line, the line's end, and the heads from which lines are looked through.
-use Rattle.std.specs.Prelude.{ℕ, zero, suc, ◌+◌, ◌-◌, ◌/◌, ◌%◌, ◌≡◌, cond, List, [], ◌∷◌, ◌++◌, ltb, eqb, length, take, drop, get_or, set, replicate}
+use Rattle.std.specs.Prelude.{ℕ, zero, suc, ◌+◌, ◌-◌, ◌/◌, ◌%◌, ◌≡◌, cond, List, [], ◌∷◌, ◌++◌, ltb, eqb, length, take, drop, get_or, set, replicate, Option, Some, None}
 use Rattle.manifests.specs.Manifests.{lines, is_digit, value_after, number_of, front, place_among, or_else}
-use Rattle.manifests.specs.declared.Number.{Number}
-use Rattle.manifests.specs.declared.Number.TheVariants.{Is, Not}
-use Rattle.manifests.specs.declared.Place.{Place}
+use Rattle.manifests.specs.declared.Part.{Part}
 use Rattle.manifests.specs.declared.Held.{Held}
-use Rattle.manifests.specs.declared.Held.TheVariants.{Neither}
 use Rattle.manifests.specs.declared.fronts.Digits.{Digits}
 use Rattle.manifests.specs.declared.fronts.Front.{Front}
 
@@ -28,22 +25,22 @@ unfoldable pub line_end : List ℕ → ℕ → ℕ
 line_end s at = at + length (first_line (drop at s))
 
 -- the number in front of a line's first tab
-unfoldable pub key_of : List ℕ → Number
-key_of line = cond (ltb (length (front line)) (length line)) (number_of (front line)) Not
+unfoldable pub key_of : List ℕ → Option ℕ
+key_of line = cond (ltb (length (front line)) (length line)) (number_of (front line)) None
 
 -- what is read in front of the first line of a text
 abbrev pub front_of : List ℕ → Front
 front_of s = record { number = key_of (first_line s); read = length (digits_of 9 s) }
 
 -- a look-up that begins with the line at a place
-abbrev pub place_from : ℕ → List ℕ → ℕ → Place
+abbrev pub place_from : ℕ → List ℕ → ℕ → Option Part
 place_from n s at = place_among n at (lines (drop at s))
 
 -- a table of heads with the line that begins at a place, by its number modulo the table's length; only where no line stands there yet, which
 -- `size` says
-unfoldable pub noted : ℕ → ℕ → Number → List ℕ → List ℕ
-noted size at (Is n) t = cond (eqb (get_or t (n % length t) 0) size) (set t (n % length t) at) t
-noted size at Not t = t
+unfoldable pub noted : ℕ → ℕ → Option ℕ → List ℕ → List ℕ
+noted size at (Some n) t = cond (eqb (get_or t (n % length t) 0) size) (set t (n % length t) at) t
+noted size at None t = t
 
 -- so with each line of a manifest, the first of which begins at a place
 unfoldable pub noted_all : ℕ → ℕ → List (List ℕ) → List ℕ → List ℕ
@@ -71,11 +68,11 @@ unfoldable pub head_by : List ℕ → ℕ → ℕ
 head_by t n = later_of (head_in (take (length t / 2) t) n) (head_in (drop (length t / 2) t) n)
 
 -- a pen looked up from such heads, whatever they are
-abbrev pub by_heads : Number → List ℕ → List ℕ → List ℕ → List ℕ → Held
-by_heads (Is n) today heads last more = or_else (place_from n today (head_by heads n)) (place_from n last (head_by more n))
-by_heads Not today heads last more = Neither
+abbrev pub by_heads : Option ℕ → List ℕ → List ℕ → List ℕ → List ℕ → Option Held
+by_heads (Some n) today heads last more = or_else (place_from n today (head_by heads n)) (place_from n last (head_by more n))
+by_heads None today heads last more = None
 
-unfoldable pub held_from : List ℕ → List ℕ → List ℕ → List ℕ → List ℕ → Held
+unfoldable pub held_from : List ℕ → List ℕ → List ℕ → List ℕ → List ℕ → Option Held
 held_from line today heads last more = by_heads (number_of line) today heads last more
 
 -- heads are a manifest's own; an empty table is any manifest's

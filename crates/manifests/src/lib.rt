@@ -5,46 +5,44 @@ mod fronts;
 mod indexing;
 mod scanning;
 
-ghost use Rattle.std.specs.Prelude.{◌≡◌, ◌-◌, ◌≤◌, min, length, take, drop};
+ghost use Rattle.std.specs.Prelude.{◌≡◌, ◌-◌, ◌≤◌, length, take, drop};
 ghost use Rattle.manifests.specs.Manifests.{number_of, name_of};
 ghost use Rattle.manifests.specs.Code.{line_end, heads_of, held_from};
 
-#[derive(Clone, Copy)]
-pub enum Number {
-    Is(u32),
-    Not,
-}
-
 // Where a name lies in a manifest.
 #[derive(Clone, Copy)]
-pub enum Place {
-    At { from: usize, to: usize },
-    Nowhere,
+pub struct Part {
+    pub from: usize,
+    pub to: usize,
 }
 
-// Where a pen's name lies, and in which manifest.
+impl Part {
+    // Its bytes, as far as the manifest has them.
+    fn of<'a>(self, s: &'a [u8]) -> &'a [u8]
+        ensures { result.now ≡ take (self.to - self.from) (drop self.from s.now) }
+    {
+        let end = self.to.min(s.len());
+        let start = self.from.min(end);
+        &s[start..end]
+    }
+}
+
+// Which manifest holds a pen, and where its name lies there.
 #[derive(Clone, Copy)]
 pub enum Held {
-    Today { from: usize, to: usize },
-    LastGood { from: usize, to: usize },
-    Neither,
+    Today(Part),
+    LastGood(Part),
 }
 
 // A pen's number, from its line.
-pub fn read_number(s: &[u8]) -> Number
+pub fn read_number(s: &[u8]) -> Option<u32>
     ensures { result ≡ number_of s.now }
 {
-    if 9 < s.len() {
-        return Number::Not;
+    let digits = fronts::read_digits(s);
+    if digits.count == 0 || digits.count < s.len() {
+        return None;
     }
-    let d = fronts::read_digits(s);
-    if d.count == 0 {
-        return Number::Not;
-    }
-    if d.count < s.len() {
-        return Number::Not;
-    }
-    Number::Is(d.value)
+    Some(digits.value)
 }
 
 // The place of the first LF at a place or after it, or the end.
@@ -53,14 +51,11 @@ pub fn line_end(s: &[u8], at: usize) -> usize
     ensures lower_bound { at ≤ result }
     ensures upper_bound { at ≤ length s.now → result ≤ length s.now }
 {
-    let mut i = at;
-    while i < s.len() {
-        if s[i] == 10 {
-            return i;
-        }
-        i += 1;
+    if s.len() <= at {
+        return at;
     }
-    i
+    let rest = &s[at..];
+    at + rest.iter().position(|b| *b == b'\n').unwrap_or(rest.len())
 }
 
 // Where the name lies of a pen by its line, looked up from heads: a manifest's own make it quick, and empty ones have every line looked through.
@@ -70,47 +65,27 @@ pub fn find(
     today_heads: &[usize],
     last_good: &[u8],
     last_heads: &[usize],
-) -> Held
+) -> Option<Held>
     ensures { result ≡ held_from line.now today.now today_heads.now last_good.now last_heads.now }
 {
-    let Number::Is(n) = read_number(line) else {
-        return Held::Neither;
-    };
-    match scanning::place(today, today_heads, n) {
-        Place::At { from, to } => {
-            return Held::Today { from, to };
-        }
-        Place::Nowhere => {}
+    let number = read_number(line)?;
+    if let Some(part) = scanning::place(today, today_heads, number) {
+        return Some(Held::Today(part));
     }
-    match scanning::place(last_good, last_heads, n) {
-        Place::At { from, to } => Held::LastGood { from, to },
-        Place::Nowhere => Held::Neither,
-    }
-}
-
-fn least(a: usize, b: usize) -> usize
-    ensures { result ≡ min a b }
-{
-    if a < b { a } else { b }
-}
-
-// The bytes from one place to another, as far as there are such.
-fn part<'a>(s: &'a [u8], from: usize, to: usize) -> &'a [u8]
-    ensures { result.now ≡ take (to - from) (drop from s.now) }
-{
-    let end = least(to, s.len());
-    let start = least(from, end);
-    &s[start..end]
+    let part = scanning::place(last_good, last_heads, number)?;
+    Some(Held::LastGood(part))
 }
 
 // The name of a pen that was found: the very bytes of the manifest that holds it.
-pub fn lookup<'a>(today: &'a [u8], last_good: &'a [u8], held: Held) -> &'a [u8]
+pub fn lookup<'a>(today: &'a [u8], last_good: &'a [u8], held: Option<Held>) -> &'a [u8]
     ensures { result.now ≡ name_of today.now last_good.now held }
 {
+    let Some(held) = held else {
+        return &[];
+    };
     match held {
-        Held::Today { from, to } => part(today, from, to),
-        Held::LastGood { from, to } => part(last_good, from, to),
-        Held::Neither => &today[0..0],
+        Held::Today(part) => part.of(today),
+        Held::LastGood(part) => part.of(last_good),
     }
 }
 
@@ -119,6 +94,7 @@ pub fn index(s: &[u8], heads: &mut [usize])
     ensures { heads.new ≡ heads_of (length heads.old) s.now }
 {
     let half = heads.len() / 2;
-    indexing::table(s, &mut heads[0..half]);
-    indexing::table(s, &mut heads[half..]);
+    let (first, second) = heads.split_at_mut(half);
+    indexing::table(s, first);
+    indexing::table(s, second);
 }

@@ -1,27 +1,18 @@
-use mathlib.Core.Path.{sym, ◌∙◌}
 use Rattle.manifests.specs.Code.{held_from}
 use Rattle.manifests.proofs.find.Goals as goal
 
-pub returns-in_default : goal.returns-in_default
+pub returns-in_err-number : goal.returns-in_err-number
 unfolding held_from
-returns-in_default c = rw (sym c.read_number.ensures ∙ c.in_default.is)
+returns-in_err-number c = rw (← c.read_number.ensures, c.in_err-number.was) c.from_residual.ensures
 
-pub returns-in-At : goal.returns-in-At
+pub returns-in-Some : goal.returns-in-Some
 unfolding held_from
-returns-in-At c = rw (sym c.read_number.ensures ∙ c.in-Is.is, sym c.place.ensures ∙ c.in-At.is)
+returns-in-Some c = rw (← c.read_number.ensures, c.in_ok-number.was, ← c.place.ensures, c.in-Some.is)
 
-pub returns-in-At-place : goal.returns-in-At-place
+pub returns-in_err-part : goal.returns-in_err-part
 unfolding held_from
-returns-in-At-place c = rw (
-  sym c.read_number.ensures ∙ c.in-Is.is,
-  sym c.place.ensures ∙ c.in-Nowhere.is,
-  sym c.place-2.ensures ∙ c.in-At-place.is,
-)
+returns-in_err-part c = rw (← c.read_number.ensures, c.in_ok-number.was, ← c.place.ensures, c.in_default.is, ← c.place-2.ensures, c.in_err-part.was) c.from_residual-in_err-part.ensures
 
-pub returns-in-Nowhere-place : goal.returns-in-Nowhere-place
+pub returns : goal.returns
 unfolding held_from
-returns-in-Nowhere-place c = rw (
-  sym c.read_number.ensures ∙ c.in-Is.is,
-  sym c.place.ensures ∙ c.in-Nowhere.is,
-  sym c.place-2.ensures ∙ c.in-Nowhere-place.is,
-)
+returns c = rw (← c.read_number.ensures, c.in_ok-number.was, ← c.place.ensures, c.in_default.is, ← c.place-2.ensures, c.in_ok-part.was)

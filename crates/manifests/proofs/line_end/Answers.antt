@@ -1,22 +1,16 @@
-use mathlib.Core.Path.{refl, sym, ◌∙◌}
-use native.Mathlib.Omega.{arith}
-use Rattle.manifests.proofs.Lined.{end-here, end-next, end-past}
+use Rattle.std.proofs.Common.{sym, rules, tests, length, take, drop, ◌-◌}
+use Rattle.std.proofs.lemmas.Iterator.{YieldsList-from_slice}
+use Rattle.std.proofs.lemmas.Iterator.Search.{position_from_yields_List}
+use Rattle.manifests.proofs.Lined.{is_lf, end-past, end-at}
 use Rattle.manifests.proofs.line_end.Goals as goal
 
-pub returns-then-s-i-eq10 : goal.returns-then-s-i-eq10
-returns-then-s-i-eq10 c = let v = c.loop-i in
-    record { value = sym (end-here c.args.s.now v.i c.loop-i-test.true c.if-s-i-eq10.true) ∙ v.invariant.0; lower_bound = v.invariant.1; upper_bound = v.invariant.2 }
+pub returns-then-s-at-clause-value : goal.returns-then-s-at-clause-value
+returns-then-s-at-clause-value c = sym (end-past c.args.s.now c.args.at c.if-s-at.true)
 
-pub loop-i-preserved : goal.loop-i-preserved
-loop-i-preserved c = let v = c.loop-i in (
-  end-next c.args.s.now v.i c.loop-i-test.true c.if-s-i-eq10.false ∙ v.invariant.0,
-  omega (arith, v.invariant.1),
-  λ h. omega (arith, c.loop-i-test.true),
-)
-
-pub returns : goal.returns
-returns c = let v = c.loop-i in
-    record { value = sym (end-past c.args.s.now v.i c.loop-i-test.false) ∙ v.invariant.0; lower_bound = v.invariant.1; upper_bound = v.invariant.2 }
-
-pub loop-i-init : goal.loop-i-init
-loop-i-init c = (refl, omega arith, λ h. h)
+pub returns-clause-value : goal.returns-clause-value
+returns-clause-value c =
+    let s = c.args.s.now in
+    let rest = take (length s - c.args.at) (drop c.args.at s) in
+    end-at s c.args.at c.position.result c.unwrap_or.result
+    (position_from_yields_List is_lf _ _ c.position.result c.position.ensures.ran (YieldsList-from_slice rest c.iter.ensures.rest) (λ x b q k. search (rules, tests)))
+    c.unwrap_or.ensures

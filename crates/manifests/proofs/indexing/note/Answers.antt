@@ -1,7 +1,5 @@
-use native.Mathlib.Omega.{arith}
-use native.Mathlib.Nat.{mod-lt}
-use borrow.Author.Tests.{eq-eqb, ne_eqb}
-use lib.ListN.{length}
+use Rattle.std.proofs.Common.{◌≡◌, length, sym, ◌∙◌}
+use borrow.Author.Tests.{eqb-true, eq-eqb, ne_eqb}
 use Rattle.manifests.specs.Code.{noted}
 use Rattle.manifests.proofs.Heads.{noted-none}
 use Rattle.manifests.proofs.indexing.note.Goals as goal
@@ -10,26 +8,15 @@ pub returns-in_default : goal.returns-in_default
 unfolding noted
 returns-in_default c = rw c.in_default.is
 
-pub returns-then-heads-eq0 : goal.returns-then-heads-eq0
-returns-then-heads-eq0 c = let a = c.args in
-    noted-none a.size a.at a.number a.heads.now c.if-heads-eq0.true
-
-pub offset_bounds-heads-i : goal.offset_bounds-heads-i
-offset_bounds-heads-i c = record { fits = omega (arith, mod-lt c.in-Is.n {m = length c.args.heads.now} (omega (arith, c.if-heads-eq0.false))) }
-
-pub bounds-heads-i : goal.bounds-heads-i
-bounds-heads-i c = mod-lt c.in-Is.n (omega (arith, c.if-heads-eq0.false))
-
-pub offset_bounds-heads-i-then-heads-i : goal.offset_bounds-heads-i-then-heads-i
-offset_bounds-heads-i-then-heads-i c = record { fits = omega (arith, mod-lt c.in-Is.n {m = length c.args.heads.now} (omega (arith, c.if-heads-eq0.false))) }
-
-pub bounds-heads-i-then-heads-i : goal.bounds-heads-i-then-heads-i
-bounds-heads-i-then-heads-i c = mod-lt c.in-Is.n (omega (arith, c.if-heads-eq0.false))
+pub returns-then-is_empty : goal.returns-then-is_empty
+returns-then-is_empty c = let a = c.args in
+    let h : length a.heads.now ≡ 0 = eqb-true (length c.args.heads.now) 0 (sym c.is_empty.ensures ∙ c.if-is_empty.true) in
+    noted-none a.size a.at a.number a.heads.now h
 
 pub returns-then-heads-i : goal.returns-then-heads-i
 unfolding noted
-returns-then-heads-i c = rw (c.in-Is.is, eq-eqb _ _ c.if-heads-i.true)
+returns-then-heads-i c = rw (c.in-Some.is, eq-eqb _ _ c.if-heads-i.true)
 
 pub returns-else-heads-i : goal.returns-else-heads-i
 unfolding noted
-returns-else-heads-i c = rw (c.in-Is.is, ne_eqb _ _ c.if-heads-i.false)
+returns-else-heads-i c = rw (c.in-Some.is, ne_eqb _ _ c.if-heads-i.false)

@@ -6,7 +6,7 @@ use Rattle.manifests.proofs.Heads.{noted_from}
 use Rattle.manifests.proofs.indexing.table.Given as goal
 
 abbrev pub invariant-loop-at : goal.invariant-loop-at
-invariant-loop-at l = (length l.heads ≡ length l.initial.heads) × (noted_from l.s l.at l.heads ≡ table_of (length l.initial.heads) l.s)
+invariant-loop-at l = (length l.heads ≡ length l.fn.heads) × (noted_from l.s l.at l.heads ≡ table_of (length l.fn.heads) l.s)
 
 abbrev pub decreases-loop-at : goal.decreases-loop-at
 decreases-loop-at l = length l.s - l.at

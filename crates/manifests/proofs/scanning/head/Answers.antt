@@ -2,5 +2,6 @@ use Rattle.manifests.proofs.Heads.{by-halves}
 use Rattle.manifests.proofs.scanning.head.Goals as goal
 
 pub returns : goal.returns
-returns c = let g = c.args in
-    by-halves g.heads.now g.n c.head_in.result c.head_in-2.result c.later.result c.head_in.ensures c.head_in-2.ensures c.later.ensures
+returns c =
+    by-halves c.args.heads.now _ _ c.args.n c.head_in.result c.head_in-2.result c.max.result c.split_at.ensures.front c.split_at.ensures.back c.head_in.ensures
+    c.head_in-2.ensures c.max.ensures
