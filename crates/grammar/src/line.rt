@@ -1,13 +1,23 @@
 // The words of a line.
 ghost use Rattle.std.specs.Prelude.{◌≡◌, ◌+◌, ◌≤◌, length, drop};
 ghost use Rattle.grammar.specs.Line.{blank, wordy, run, line_of};
-ghost use Rattle.grammar.specs.Code.{split_as, within, ReadAs};
+ghost use Rattle.grammar.specs.Code.{part, part_within, split_as, within, ReadAs};
 
 // The bytes of a line from one place up to another.
 #[derive(Clone, Copy)]
 pub struct Part {
     pub from: usize,
     pub to: usize,
+}
+
+impl Part {
+    // The bytes that stand there.
+    pub fn of(self, line: &[u8]) -> &[u8]
+        requires { part_within self (length line.now) }
+        ensures { result.now ≡ part line.now self }
+    {
+        &line[self.from..self.to]
+    }
 }
 
 // The three words of an instruction's line, by their places.
