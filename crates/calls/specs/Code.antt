@@ -1,8 +1,8 @@
 -- How the code's answers stand for the rules' own.
-use Rattle.std.specs.Prelude.{ℕ, cond, ◌≡◌, List, eqb}
+use Rattle.std.specs.Prelude.{ℕ, ◌≡◌, List, Result, Ok, Err}
 use Rattle.history.specs.Trace.{Call}
 use Rattle.calls.specs.Inputs.{Input}
-use Rattle.calls.specs.Calls.{plain_of, world_of, replied}
+use Rattle.calls.specs.Calls.{plain_of, world_of, number_of, replied}
 use Rattle.calls.specs.declared.state.Machine.{Machine as MachineT}
 use Rattle.calls.specs.declared.state.Refusal.{Refusal}
 use Rattle.calls.specs.declared.state.Answer.TheVariants.{Refused}
@@ -12,9 +12,10 @@ use Rattle.calls.specs.declared.state.Reply.{Reply}
 abbrev pub refuse : MachineT → Refusal → Reply
 refuse m why = record { answer = Refused why; machine = m }
 
--- the refusal of the first check that fails, by its number
-abbrev pub first_refusal : ℕ → Refusal
-first_refusal n = cond (eqb n 1) Refusal.RamTooLong (cond (eqb n 2) Refusal.BadJournal Refusal.BadState)
+-- what was checked, as a number: that of the refusal, or 0
+abbrev pub checked : {T : Type 0} → Result T Refusal → ℕ
+checked (Ok t) = 0
+checked (Err why) = number_of why
 
 -- what a part of a call promises that makes no checks: as `Keeps`, but for the checks
 abbrev pub Acts : Call Input → MachineT → List ℕ → List ℕ → Reply → List ℕ → List ℕ → Type 0

@@ -68,18 +68,20 @@ pub struct Reply {
 }
 
 // The number that the rules give a refusal.
-pub fn number(why: Refusal) -> u8
-    ensures { result ≡ number_of why }
-{
-    match why {
-        Refusal::RamTooLong => 1,
-        Refusal::BadJournal => 2,
-        Refusal::BadState => 3,
-        Refusal::Halted => 4,
-        Refusal::NotReady => 5,
-        Refusal::NoRegister => 6,
-        Refusal::NotRam => 7,
-        Refusal::NoRecord => 8,
-        Refusal::BadRecord => 9,
+impl From<Refusal> for u8 {
+    fn from(why: Refusal) -> u8
+        ensures { result ≡ number_of why }
+    {
+        match why {
+            Refusal::RamTooLong => 1,
+            Refusal::BadJournal => 2,
+            Refusal::BadState => 3,
+            Refusal::Halted => 4,
+            Refusal::NotReady => 5,
+            Refusal::NoRegister => 6,
+            Refusal::NotRam => 7,
+            Refusal::NoRecord => 8,
+            Refusal::BadRecord => 9,
+        }
     }
 }

@@ -1,15 +1,14 @@
 -- A list of entries met one by one: the first that is met, and whether all kinds are known.
 use Prim.Native.Nat.{ℕ, zero, suc, ◌+◌, ◌<◌, ◌≤◌}
 use mathlib.Core.Path.{◌≡◌, refl, ap}
-use mathlib.Core.Bool.{Bool, true, false, ◌||◌}
+use mathlib.Core.Bool.{Bool, true, false}
 use mathlib.Core.List.{List, [], ◌∷◌}
 use native.Mathlib.Nat.{le_of_suc-le-suc, not-suc-le-zero}
 use native.Mathlib.Numerals.{add-one}
 use native.Mathlib.Omega.{arith}
-use lib.Dec.{eqb}
 use lib.ListN.{length, get_or, drop, drop_of_length-le}
 use lib.Seq.{drop-cons}
-use Rattle.entries.specs.Entries.{entry, place_of, all_known}
+use Rattle.entries.specs.Entries.{entry, place_of}
 use Rattle.entries.specs.Code.{bare}
 use Rattle.entries.specs.declared.Entry.{Entry}
 
@@ -38,19 +37,3 @@ bare-at [] k i e h = absurd (not-suc-le-zero h)
 bare-at (x ∷ a) [] i e h = absurd (omega arith)
 bare-at (x ∷ a) (y ∷ k) zero e h = refl
 bare-at (x ∷ a) (y ∷ k) (suc i) e h = bare-at a k i (omega arith) (le_of_suc-le-suc h)
-
-module _ (l : List ℕ) (i : ℕ) where
-  abbrev kind : ℕ
-  kind = get_or l i 0
-
-  pub all-on : i < length l → (eqb kind 1 || eqb kind 2) ≡ true → all_known (drop i l) ≡ all_known (drop (i + 1) l)
-  unfolding all_known
-  all-on h e = rw (drop-cons l i 0 h, e, add-one)
-
-  pub all-not : i < length l → (eqb kind 1 || eqb kind 2) ≡ false → all_known (drop i l) ≡ false
-  unfolding all_known
-  all-not h e = rw (drop-cons l i 0 h, e)
-
-  pub all_end : length l ≤ i → all_known (drop i l) ≡ true
-  unfolding all_known
-  all_end h = rw (drop_of_length-le l h)

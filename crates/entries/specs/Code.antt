@@ -1,5 +1,5 @@
 -- How the code has a list without a reference to a struct: its addresses and kinds, of the first 64 entries.
-use Rattle.std.specs.Prelude.{ℕ, ◌+◌, cond, List, [], ◌∷◌, ltb, replicate, set}
+use Rattle.std.specs.Prelude.{ℕ, ◌+◌, cond, List, [], ◌∷◌, ltb, replicate, set, fold}
 use Rattle.entries.specs.Entries.{entry, counted}
 use Rattle.entries.specs.declared.Entry.{Entry}
 use Rattle.entries.specs.declared.Met.{Met}
@@ -25,8 +25,7 @@ added p e =
     (points 65 p.addresses p.kinds)
 
 unfoldable pub added_all : Points → List Entry → Points
-added_all p [] = p
-added_all p (e ∷ l) = added_all (added p e) l
+added_all p l = fold added p l
 
 abbrev pub points_of : List Entry → Points
 points_of l = added_all no_points l

@@ -1,5 +1,6 @@
 -- Q-9's list: "each an address, a kind (1 break, 2 watch) and a hit count". Which entries a stop meets, how they are counted, and which is named.
-use Rattle.std.specs.Prelude.{ℕ, suc, ◌+◌, Bool, true, false, cond, ◌&&◌, ◌||◌, List, [], ◌∷◌, eqb, ltb}
+use Rattle.std.specs.Prelude.{ℕ, suc, ◌+◌, Bool, false, cond, ◌&&◌, ◌||◌, List, [], ◌∷◌, map, eqb, ltb}
+use Rattle.std.specs.List.{list_all}
 use Rattle.word.specs.Word.{above}
 use Rattle.entries.specs.declared.Entry.{Entry}
 use Rattle.entries.specs.declared.Met.{Met}
@@ -32,8 +33,7 @@ counted x e = cond (meets x e) (entry e.address e.kind (raised e.hits)) e
 
 -- "When several entries match, all are counted"
 unfoldable pub marked : Met → List Entry → List Entry
-marked x [] = []
-marked x (e ∷ l) = counted x e ∷ marked x l
+marked x l = map (counted x) l
 
 -- "and the first in the list is named": its place, from 0; the list's length where there is none
 unfoldable pub place_of : (Entry → Bool) → List Entry → ℕ
@@ -42,5 +42,4 @@ place_of f (e ∷ l) = cond (f e) 0 (suc (place_of f l))
 
 -- 41: "unknown kind"
 unfoldable pub all_known : List ℕ → Bool
-all_known [] = true
-all_known (k ∷ ks) = (eqb k 1 || eqb k 2) && all_known ks
+all_known ks = list_all (λ (k : ℕ). eqb k 1 || eqb k 2) ks

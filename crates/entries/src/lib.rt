@@ -30,7 +30,8 @@ pub struct Points {
     pub kinds: [u16; 64],
 }
 
-fn meets(address: u16, kind: u16, x: Met) -> bool
+// Is an entry of this address and kind among those that a stop meets?
+pub fn meets(address: u16, kind: u16, x: Met) -> bool
     ensures { result ≡ meets_it x (entry address kind 0) }
 {
     let first = (0 < x.count) & (address == x.first);
@@ -59,29 +60,19 @@ pub fn first(addresses: &[u16], kinds: &[u16], x: Met) -> usize
     requires { length kinds.now ≡ length addresses.now }
     ensures { result ≡ place_of (meets_it x) (bare addresses.now kinds.now) }
 {
-    let mut i = 0;
-    while i < addresses.len() {
-        if meets(addresses[i], kinds[i], x) {
+    for (i, &address) in addresses.iter().enumerate() {
+        if meets(address, kinds[i], x) {
             return i;
         }
-        i += 1;
     }
-    i
+    addresses.len()
 }
 
 // Refusal 41's own question.
 pub fn known(kinds: &[u16]) -> bool
     ensures { result ≡ all_known kinds.now }
 {
-    let mut i = 0;
-    while i < kinds.len() {
-        let kind = kinds[i];
-        if !((kind == 1) | (kind == 2)) {
-            return false;
-        }
-        i += 1;
-    }
-    true
+    kinds.iter().all(|&kind| (kind == 1) | (kind == 2))
 }
 
 pub fn none() -> Points
@@ -121,16 +112,14 @@ pub fn raise(addresses: [u16; 64], kinds: [u16; 64], hits: [u16; 64], x: Met) ->
     ensures { result ≡ raised_all x addresses kinds hits }
 {
     let mut after = hits;
-    let mut i = 0;
-    while i < 64 {
+    for (i, h) in after.iter_mut().enumerate() {
         let e = Entry {
             address: addresses[i],
             kind: kinds[i],
-            hits: after[i],
+            hits: *h,
         };
         let c = counted(e, x);
-        after[i] = c.hits;
-        i += 1;
+        *h = c.hits;
     }
     after
 }
@@ -140,10 +129,8 @@ pub fn gather(list: &mut [Entry]) -> Points
     ensures { (result ≡ points_of list.old) × (list.new ≡ list.old) }
 {
     let mut p = none();
-    let mut k = 0;
-    while k < list.len() {
-        p = add(p, list[k]);
-        k = k + 1;
+    for e in list.iter() {
+        p = add(p, *e);
     }
     p
 }
@@ -152,9 +139,7 @@ pub fn gather(list: &mut [Entry]) -> Points
 pub fn mark(list: &mut [Entry], x: Met)
     ensures { list.new ≡ marked x list.old }
 {
-    let mut n = 0;
-    while n < list.len() {
-        list[n] = counted(list[n], x);
-        n = n + 1;
+    for e in list {
+        *e = counted(*e, x);
     }
 }

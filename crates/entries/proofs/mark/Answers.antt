@@ -1,22 +1,20 @@
-use Rattle.std.proofs.Common.{◌<◌, List, sym, ap, ◌∙◌, arith, length, get_or}
+use Rattle.std.proofs.Common.{◌<◌, ap, ◌∙◌, arith, length, get_or, map}
 use lib.ListN.{set}
-use Rattle.entries.specs.Entries.{counted}
-use Rattle.entries.specs.declared.Entry.{Entry}
-use Rattle.entries.proofs.Marks.{past, marks-none, marks-next, marks-all, marks-length}
+use Rattle.std.proofs.lemmas.List.{take_all, drop_all, append-nil, get_or_default}
+use Rattle.std.proofs.lemmas.List.Edits.{map_over_more}
+use Rattle.entries.specs.Entries.{entry, counted, marked}
 use Rattle.entries.proofs.mark.Goals as goal
 
-pub loop-n-init : goal.loop-n-init
-loop-n-init c = sym (marks-none c.args.x c.args.list.now)
-
-pub loop-n-preserved : goal.loop-n-preserved
-loop-n-preserved c =
-    let x = c.args.x in let l = c.args.list.now in let v = c.loop-n in
-    let within : v.n < length l = omega (arith, c.loop-n-test.true, ap length v.invariant, marks-length x v.n l) in
-    ap (λ (e : Entry). set v.list v.n e) c.counted.ensures
-    ∙ ap (λ (k : List Entry). set k v.n (counted x (get_or k v.n past))) v.invariant
-    ∙ marks-next x v.n l within
+pub loop-e-preserved : goal.loop-e-preserved
+loop-e-preserved c =
+    let l = c.args.list.now in let v = c.loop-e in let x = c.args.x in
+    let e = get_or v.e-items v.e-index (entry 0 0 0) in
+    let within : v.e-index < length v.e-items = omega (arith, c.loop-e-test.true, v.auto.e-items) in
+    ap (set v.e-items v.e-index) c.counted.ensures
+    ∙ map_over_more (counted x) l v.e-items v.e-index e c.loop-e-test.true v.invariant (get_or_default v.e-items v.e-index (entry 0 0 0) e within)
 
 pub returns : goal.returns
+unfolding marked
 returns c =
-    let a = c.args in let v = c.loop-n in
-    v.invariant ∙ marks-all a.x v.n a.list.now (omega (arith, c.loop-n-test.false, ap length v.invariant, marks-length a.x v.n a.list.now))
+    let l = c.args.list.now in let i = c.loop-e.e-index in
+    c.loop-e.invariant ∙ rw (take_all i l c.loop-e-test.false, drop_all i l c.loop-e-test.false) (append-nil (map (counted c.args.x) l))

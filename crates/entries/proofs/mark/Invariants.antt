@@ -1,9 +1,6 @@
-use Rattle.std.proofs.Common.{◌≡◌, ◌-◌, length}
-use Rattle.entries.proofs.Marks.{marks}
+use Rattle.std.proofs.Common.{◌≡◌, ◌++◌, map, take, drop}
+use Rattle.entries.specs.Entries.{counted}
 use Rattle.entries.proofs.mark.Given as goal
 
-abbrev pub invariant-loop-n : goal.invariant-loop-n
-invariant-loop-n l = l.list ≡ marks l.x l.n l.initial.list
-
-abbrev pub decreases-loop-n : goal.decreases-loop-n
-decreases-loop-n l = length l.list - l.n
+abbrev pub invariant-loop-e : goal.invariant-loop-e
+invariant-loop-e l = l.e-items ≡ map (counted l.x) (take l.e-index l.fn.list) ++ drop l.e-index l.fn.list
