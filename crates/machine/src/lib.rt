@@ -46,9 +46,8 @@ fn act(call: Call, m: Machine, ram: &mut [u8], journal: &mut [u16]) -> Reply
 pub fn answer(call: Call, m: Machine, ram: &mut [u8], journal: &mut [u16]) -> Reply
     ensures { Keeps (asked call) m ram.old journal.old result ram.new journal.new }
 {
-    let n = checks::check(m, ram, journal);
-    if n != 0 {
-        return checks::failed(m, n);
+    match checks::check(m, ram, journal) {
+        Err(why) => checks::refused(m, why),
+        Ok(()) => act(call, m, ram, journal),
     }
-    act(call, m, ram, journal)
 }

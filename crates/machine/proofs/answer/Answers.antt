@@ -3,11 +3,11 @@ use Rattle.calls.proofs.Answering.{fails, passes}
 use Rattle.machine.specs.Asked.{asked}
 use Rattle.machine.proofs.answer.Goals as goal
 
-pub returns-then-n-ne0 : goal.returns-then-n-ne0
-returns-then-n-ne0 c = let a = c.args in
-    fails a.m a.ram.now a.journal.now _ c.check-n.ensures (asked a.call) _ c.if-n-ne0.true c.failed.ensures
+pub returns-in-Err : goal.returns-in-Err
+returns-in-Err c = let a = c.args in
+    fails a.m a.ram.now a.journal.now c.in-Err.why (rw c.in-Err.is at c.check.ensures) (asked a.call) _ c.refused.ensures
 
-pub returns : goal.returns
-returns c = let a = c.args in
-    passes a.m a.ram.now a.journal.now _ c.check-n.ensures c.if-n-ne0.false (asked a.call) ∙ c.act.ensures
-    (sym c.check-n.ensures ∙ c.if-n-ne0.false)
+pub returns-in-Ok : goal.returns-in-Ok
+returns-in-Ok c = let a = c.args in
+    let e = rw c.in-Ok.is at c.check.ensures in
+    passes a.m a.ram.now a.journal.now e (asked a.call) ∙ c.act.ensures (sym e)
