@@ -8,9 +8,15 @@ use native.Mathlib.Omega.{arith}
 use borrow.Author.Tests.{leb-true}
 use Rattle.isa.specs.Opcode.{meaning, reason_of}
 use Rattle.names.specs.Code.{pack}
-use Rattle.isa.specs.Code.{key_at, op_in, name_in, TellsAll}
+use Rattle.isa.specs.Code.{key_at, kind_ops, kind_op, kind_names, flag_keys, ended, under, kind_name, op_in, name_in, TellsAll}
+use Rattle.isa.specs.declared.opcode.TheConstants.{TABLE}
 use Rattle.isa.specs.declared.opcode.Op.{Op}
 use Rattle.letters.proofs.Lists.{agree, ranged}
+
+-- The one computed test: what the kinds tell, against the meaning of each of the 256 opcode bytes.
+pub told : TellsAll TABLE
+unfolding TellsAll op_in name_in kind_op kind_ops kind_name kind_names flag_keys ended under meaning
+told = refl
 
 tells : (t : List ℕ) → TellsAll t → (o : ℕ) → o < 256 → ◌≡◌ {A = ℕ × Op} (name_in t o, op_in t o) (key_at o, (meaning o).op)
 unfolding TellsAll

@@ -43,14 +43,9 @@ pub enum Op {
     Store(StoreOp),
 }
 
-#[derive(Clone, Copy)]
-pub enum FoundOpcode {
-    Is(u8),
-    Unknown,
-}
-
 // The kind of each opcode byte: 0 gives reason 2; 1 to 3 are `ld`, `ld..is` and `mv` under a condition; from 4 on the plain mnemonics, by their opcodes.
-const TABLE: [u8; 256] = [
+// A kind is a number, since `decode` and `mnemonic` take any 256 bytes as a table, and `op_in` and `name_in` say what they make of each.
+static TABLE: [u8; 256] = [
     4, 5, 6, 7, 8, 9, 10, 11, 12, 13, 14, 15, 16, 0, 17, 0, 18, 19, 20, 21, 22, 23, 24, 25, 26, 27,
     28, 29, 30, 31, 0, 0, 0, 0, 0, 0, 0, 0, 0, 0, 0, 0, 0, 0, 0, 0, 0, 0, 0, 0, 0, 0, 0, 0, 0, 0,
     0, 0, 0, 0, 0, 0, 0, 0, 0, 0, 0, 0, 0, 0, 0, 0, 0, 0, 0, 0, 0, 0, 0, 0, 0, 0, 0, 0, 0, 0, 0, 0,
@@ -63,10 +58,10 @@ const TABLE: [u8; 256] = [
 ];
 
 // The names of the flags as numbers, the first byte lowest.
-const FLAGS: [u16; 8] = [0x3066, 0x3166, 0x3266, 0x3366, 0x7a, 0x63, 0x73, 0x6f];
+static FLAGS: [u16; 8] = [0x3066, 0x3166, 0x3266, 0x3366, 0x7a, 0x63, 0x73, 0x6f];
 
 // The opcode of the mnemonic that has the mark; 0x0d, which has no mnemonic, where none has it.
-const MARKS: [u8; 163] = [
+static MARKS: [u8; 163] = [
     0x0d, 0x0d, 0xaa, 0x9a, 0x0d, 0xa7, 0x13, 0xc6, 0xce, 0x97, 0x1a, 0xcd, 0x0d, 0x14, 0x0d, 0x0d,
     0x0d, 0x0d, 0x0d, 0xa1, 0x10, 0x0d, 0x0d, 0x0d, 0xae, 0x0d, 0xc5, 0xad, 0x0d, 0x0d, 0x0d, 0x0d,
     0x0d, 0x9c, 0x0d, 0x0d, 0x0d, 0xc2, 0x0d, 0x0d, 0x04, 0x0d, 0x0d, 0x0d, 0x93, 0x0d, 0x0d, 0x0d,
@@ -87,18 +82,6 @@ pub fn table() -> [u8; 256]
     TABLE
 }
 
-fn flags() -> [u16; 8]
-    ensures { result ≡ flag_keys }
-{
-    FLAGS
-}
-
-fn marks() -> [u8; 163]
-    ensures { Marked result }
-{
-    MARKS
-}
-
 // The kind of an opcode byte.
 fn kind(table: &[u8; 256], opcode: u8) -> u8
     ensures { result ≡ get_or table.now opcode 0 }
@@ -107,6 +90,7 @@ fn kind(table: &[u8; 256], opcode: u8) -> u8
 }
 
 // The operation of a kind.
+#[tactic(auto, unfolding(crate::specs::Code::kind_op, crate::specs::Code::kind_ops))]
 fn operation(kind: u8) -> Op
     ensures { result ≡ kind_op kind }
 {
@@ -147,6 +131,7 @@ fn operation(kind: u8) -> Op
 }
 
 // What an opcode byte does, by the table that is lent.
+#[tactic(auto, unfolding(crate::specs::Code::op_in))]
 pub fn decode(table: &[u8; 256], opcode: u8) -> Op
     ensures { result ≡ op_in table.now opcode }
 {
@@ -159,6 +144,7 @@ const LD: u64 = 0x646c;
 const MV: u64 = 0x766d;
 
 // The name of a kind that has one name, as a number, the first byte lowest; 0 of the others.
+#[tactic(auto, unfolding(crate::specs::Code::kind_names))]
 fn plain_name(kind: u8) -> u64
     ensures { result ≡ get_or kind_names kind 0 }
 {
@@ -196,14 +182,15 @@ fn plain_name(kind: u8) -> u64
 }
 
 // The name of the flag that a condition tests.
+#[tactic(auto, unfolding(crate::specs::Code::flag_keys))]
 fn flag(opcode: u8) -> u16
     ensures { result ≡ flag_key opcode }
 {
-    let names = flags();
-    names[(opcode % 8) as usize]
+    FLAGS[(opcode % 8) as usize]
 }
 
 // A flag's name of one or two bytes, and `is` after it.
+#[tactic(auto, unfolding(crate::specs::Code::ended))]
 fn ended(flag: u16) -> u32
     ensures { result ≡ ended flag }
 {
@@ -215,6 +202,7 @@ fn ended(flag: u16) -> u32
 }
 
 // The name of an opcode under a condition: two letters, `n` where bit 3 is 0, and the rest.
+#[tactic(auto, unfolding(crate::specs::Code::under))]
 fn under(head: u16, opcode: u8, rest: u32) -> u64
     ensures { result ≡ under head opcode rest }
 {
@@ -228,6 +216,7 @@ fn under(head: u16, opcode: u8, rest: u32) -> u64
 }
 
 // The name of an opcode of this kind.
+#[tactic(auto, unfolding(crate::specs::Code::kind_name))]
 fn name(kind: u8, opcode: u8) -> u64
     ensures { result ≡ kind_name kind opcode }
 {
@@ -239,7 +228,8 @@ fn name(kind: u8, opcode: u8) -> u64
     }
 }
 
-// An opcode's mnemonic as one number, its first byte lowest, by the table that is lent; 0 where the opcode gives reason 2.
+// An opcode's mnemonic as one number, its first byte lowest, by the table that is lent; 0 where the opcode gives reason 2: it can't fail, by `name_in`.
+#[tactic(auto, unfolding(crate::specs::Code::name_in))]
 pub fn mnemonic(table: &[u8; 256], opcode: u8) -> u64
     ensures { result ≡ name_in table.now opcode }
 {
@@ -255,20 +245,14 @@ const ROOM: u64 = 163;
 fn likely(key: u64) -> u8
     ensures { CanOnlyBe key result }
 {
-    let opcodes = marks();
-    opcodes[(key % SPREAD % ROOM) as usize]
+    MARKS[(key % SPREAD % ROOM) as usize]
 }
 
 // The opcode that a mnemonic of either case stands for.
-pub fn named(name: &[u8]) -> FoundOpcode
+pub fn named(name: &[u8]) -> Option<u8>
     ensures { result ≡ opcode_named name.now }
 {
-    let key = keys::key(name);
+    let key = keys::key(name)?;
     let opcode = likely(key);
-    let kinds = table();
-    if mnemonic(&kinds, opcode) == key {
-        FoundOpcode::Is(opcode)
-    } else {
-        FoundOpcode::Unknown
-    }
+    (mnemonic(&TABLE, opcode) == key).then_some(opcode)
 }

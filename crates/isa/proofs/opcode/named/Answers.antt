@@ -1,19 +1,15 @@
-use mathlib.Core.Path.{◌∙◌}
-use Prim.Native.Nat.{◌<◌}
-use native.Mathlib.Omega.{arith}
+use mathlib.Core.Path.{sym, ◌∙◌}
 use Rattle.names.proofs.Keyed.{known_bytes}
-use Rattle.isa.proofs.Tables.{tells-name}
-use Rattle.isa.proofs.Guesses.{opcode-found, opcode-missed}
+use Rattle.isa.proofs.Tables.{told, tells-name}
+use Rattle.isa.proofs.Guesses.{opcode-unkeyed, opcode-told}
 use Rattle.isa.proofs.opcode.named.Goals as goal
 
-pub returns-then-mnemonic-key : goal.returns-then-mnemonic-key
-returns-then-mnemonic-key c = let w = c.args.name.now in
-    let h : c.likely-opcode.result < 256 = omega arith in
-    let m = c.mnemonic.ensures ∙ tells-name _ c.table-kinds.ensures c.likely-opcode.result h in
-    opcode-found w (known_bytes w c.shared_slice_known-1.given) _ _ _ c.key-key.ensures h c.likely-opcode.ensures m c.if-mnemonic-key.true
+pub returns-in_err-key : goal.returns-in_err-key
+returns-in_err-key c = c.from_residual.ensures ∙ opcode-unkeyed _ (sym c.in_err-key.ensures)
 
-pub returns-else-mnemonic-key : goal.returns-else-mnemonic-key
-returns-else-mnemonic-key c = let w = c.args.name.now in
-    let h : c.likely-opcode.result < 256 = omega arith in
-    let m = c.mnemonic.ensures ∙ tells-name _ c.table-kinds.ensures c.likely-opcode.result h in
-    opcode-missed w (known_bytes w c.shared_slice_known-1.given) _ _ _ c.key-key.ensures h c.likely-opcode.ensures m c.if-mnemonic-key.false
+pub returns : goal.returns
+returns c =
+    let h = c.likely-opcode.type_inv in
+    let m = c.mnemonic.ensures ∙ tells-name _ told _ h in
+    c.then_some.ensures
+    ∙ opcode-told _ (known_bytes _ c.type_inv.name) _ _ _ (sym c.in_ok-key.ensures) h c.likely-opcode.ensures m
