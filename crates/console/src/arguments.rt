@@ -1,47 +1,173 @@
 // What the desk is started with: desk [--ram N] [--slots N] [--protect FIRST LAST] [IMAGE]
 ghost use Rattle.std.specs.Prelude.{◌≤◌, ◌<◌};
 
-use crate::{texts, values, version, words};
+use crate::{values, version, words};
 use lexis::numbers;
-use lexis::numbers::Read;
 use std::env::{Env, FillError};
 
+// What the options of the board give, whichever program takes them.
 #[derive(Clone, Copy)]
-pub struct Settings {
+pub struct Board {
     pub ram: usize,
+    // The journal's words, 32 for a record.
     pub words: usize,
-    // The protected addresses, and whether they are given; a first above the last means none.
-    pub first: u16,
-    pub last: u16,
-    is_protecting: bool,
-    // The argument that names the image; 0 is none.
-    pub image: usize,
-    pub is_good: bool,
+    // The first and the last protected address, where they are given; a first above the last means none.
+    pub stretch: Option<(u16, u16)>,
 }
 
-// An argument, put at the start of the room: how long it is; 0 where it is missing, or longer than the room.
-pub fn argument(rt: &impl Env, i: usize, room: &mut [u8]) -> usize {
-    rt.arg(i, room).unwrap_or(0)
+// What the desk starts with; the image is an argument.
+#[derive(Clone, Copy)]
+pub struct Settings {
+    pub board: Board,
+    pub image: Option<usize>,
+}
+
+// The options that each program has.
+#[derive(Clone, Copy, PartialEq, Eq)]
+pub enum Shared {
+    Ram,
+    Slots,
+    Protect,
+    Version,
+    Help,
+}
+
+// What is wrong with an argument.
+#[derive(Clone, Copy)]
+pub struct Bad {
+    pub what: &'static [u8],
+    pub at: usize,
+}
+
+// An argument, put at the start of the room; empty where it is missing, or longer than the room.
+pub fn argument<'a>(rt: &impl Env, i: usize, room: &'a mut [u8]) -> &'a [u8] {
+    let n = rt.arg(i, room).unwrap_or(0);
+    words::front(room, n)
 }
 
 fn is_there(rt: &impl Env, i: usize) -> bool {
     let mut room = [0u8; 1];
-    match rt.arg(i, &mut room) {
-        Err(FillError::NotPresent) => false,
-        Ok(_) | Err(FillError::TooLong) => true,
-    }
+    !matches!(rt.arg(i, &mut room), Err(FillError::NotPresent))
 }
 
 // How many arguments there are, the program's own name among them.
 pub fn count(rt: &impl Env) -> usize {
-    let mut n: usize = 0;
-    while n < usize::MAX {
+    for n in 0..usize::MAX {
         if !is_there(rt, n) {
             return n;
         }
-        n += 1;
     }
-    n
+    usize::MAX
+}
+
+// The number in an argument, as a program reads one.
+pub fn number<F: Fn(&[u8]) -> Option<u16>>(rt: &impl Env, i: usize, read: F) -> Option<u16>
+    requires { F.IsAlwaysCallable read }
+{
+    let mut room = io::buffer();
+    read(argument(rt, i, &mut room))
+}
+
+// The place after an argument's; no system hands on a million of them.
+pub fn next(i: usize) -> usize {
+    if i < 1000000 { i + 1 } else { i }
+}
+
+static OPTIONS: [(&[u8], Shared); 6] = [
+    (b"--ram", Shared::Ram),
+    (b"--slots", Shared::Slots),
+    (b"--protect", Shared::Protect),
+    (b"--version", Shared::Version),
+    (b"--help", Shared::Help),
+    (b"-h", Shared::Help),
+];
+
+impl Shared {
+    // The option that a word names, in either case.
+    pub fn named(word: &[u8]) -> Option<Shared> {
+        for (name, option) in &OPTIONS {
+            if words::is_name(word, name) {
+                return Some(*option);
+            }
+        }
+        None
+    }
+
+    // The option with the numbers after it: how many arguments they are.
+    pub fn taken(self) -> usize
+        ensures { 0 < result }
+    {
+        match self {
+            Shared::Protect => 3,
+            _ => 2,
+        }
+    }
+}
+
+// The number in an argument, where it is at most so much.
+fn within<F: Fn(&[u8]) -> Option<u16>>(
+    rt: &impl Env,
+    i: usize,
+    read: F,
+    most: u16,
+    what: &'static [u8],
+) -> Result<u16, Bad>
+    requires { F.IsAlwaysCallable read }
+{
+    match number(rt, i, read) {
+        Some(n) if n <= most => Ok(n),
+        _ => Err(Bad { what, at: i }),
+    }
+}
+
+impl Board {
+    pub fn new() -> Board {
+        Board {
+            ram: 30000,
+            words: 32768,
+            stretch: None,
+        }
+    }
+
+    // The board with what the option at a place gives; as it was where the option is of another kind.
+    pub fn with<F: Fn(&[u8]) -> Option<u16>>(
+        self,
+        rt: &impl Env,
+        option: Shared,
+        i: usize,
+        read: F,
+    ) -> Result<Board, Bad>
+        requires { F.IsAlwaysCallable read }
+    {
+        let at = next(i);
+        let mut board = self;
+        match option {
+            Shared::Ram => {
+                let what = b"--ram needs a number of bytes from 0 to 65504";
+                board.ram = within(rt, at, &read, 65504, what)? as usize;
+            }
+            Shared::Slots => {
+                let what = b"--slots needs a number from 0 to 1024";
+                board.words = within(rt, at, &read, 1024, what)? as usize * 32;
+            }
+            Shared::Protect => {
+                let what = b"--protect needs a first and a last address from 0 to 65535";
+                let first = within(rt, at, &read, 65535, what)?;
+                let last = within(rt, next(at), &read, 65535, what)?;
+                board.stretch = Some((first, last));
+            }
+            Shared::Version | Shared::Help => {}
+        }
+        Ok(board)
+    }
+}
+
+// The argument after so many of n.
+pub fn following(i: usize, n: usize, k: usize) -> usize
+    requires { (i < n) × (0 < k) }
+    ensures { (i < result) × (result ≤ n) }
+{
+    if k < n - i { i + k } else { n }
 }
 
 fn usage(rt: &impl Print) {
@@ -51,28 +177,7 @@ fn usage(rt: &impl Print) {
     );
 }
 
-// The desk is not to start.
-fn ended(s: Settings) -> Settings {
-    let mut e = s;
-    e.is_good = false;
-    e
-}
-
-fn bad(rt: &(impl Print + Env), s: Settings, what: &[u8], i: usize) -> Settings {
-    let mut room = io::buffer();
-    let n = argument(rt, i, &mut room);
-    report::text(rt, b"desk: ");
-    values::complain(rt, what, words::front(&room, n));
-    usage(rt);
-    ended(s)
-}
-
-fn told_version(rt: &impl Print, s: Settings) -> Settings {
-    version::show(rt);
-    ended(s)
-}
-
-fn told_help(rt: &impl Print, s: Settings) -> Settings {
+fn told_help(rt: &impl Print) {
     version::show(rt);
     usage(rt);
     report::text(
@@ -85,173 +190,119 @@ fn told_help(rt: &impl Print, s: Settings) -> Settings {
 Commands come from standard input, a line each; ? lists them.
 ",
     );
-    ended(s)
 }
 
-// The number in an argument, or 65,536 where there is none in it.
-fn number_in(rt: &impl Env, i: usize) -> u32 {
+fn told(rt: &(impl Print + Env), bad: Bad) {
     let mut room = io::buffer();
-    let n = argument(rt, i, &mut room);
-    let r = numbers::unsigned(words::front(&room, n));
-    match r {
-        Read::Is(v) => v.bits as u32,
-        Read::Bad | Read::TooLarge => 65536,
+    report::text(rt, b"desk: ");
+    values::complain(rt, bad.what, argument(rt, bad.at, &mut room));
+    usage(rt);
+}
+
+// What an argument is: an option, another word with a minus sign in front, or the image.
+#[derive(Clone, Copy)]
+enum Given {
+    Option(Shared),
+    Strange,
+    Image,
+}
+
+impl Given {
+    // How many arguments it takes.
+    fn taken(self) -> usize
+        ensures { 0 < result }
+    {
+        match self {
+            Given::Option(option) => option.taken(),
+            Given::Strange | Given::Image => 1,
+        }
     }
 }
 
-fn with_ram(rt: &(impl Print + Env), s: Settings, i: usize) -> Settings {
-    let n = number_in(rt, i);
-    if 65504 < n {
-        return bad(rt, s, b"--ram needs a number of bytes from 0 to 65504", i);
-    }
-    let mut e = s;
-    e.ram = n as usize;
-    e
-}
-
-fn with_slots(rt: &(impl Print + Env), s: Settings, i: usize) -> Settings {
-    let n = number_in(rt, i);
-    if 1024 < n {
-        return bad(rt, s, b"--slots needs a number from 0 to 1024", i);
-    }
-    let mut e = s;
-    e.words = n as usize * 32;
-    e
-}
-
-fn bad_stretch(rt: &(impl Print + Env), s: Settings, i: usize) -> Settings {
-    bad(
-        rt,
-        s,
-        b"--protect needs a first and a last address from 0 to 65535",
-        i,
-    )
-}
-
-fn with_stretch(rt: &(impl Print + Env), s: Settings, i: usize) -> Settings {
-    let first = number_in(rt, i);
-    let last = number_in(rt, next(i));
-    if 65535 < first {
-        return bad_stretch(rt, s, i);
-    }
-    if 65535 < last {
-        return bad_stretch(rt, s, next(i));
-    }
-    let mut e = s;
-    e.first = first as u16;
-    e.last = last as u16;
-    e.is_protecting = true;
-    e
-}
-
-fn with_image(rt: &(impl Print + Env), s: Settings, i: usize) -> Settings {
-    if s.image != 0 {
-        return bad(rt, s, b"there is more than one image", i);
-    }
-    let mut e = s;
-    e.image = i;
-    e
-}
-
-// Which option a word is: its line here; 6 is another that begins with a minus sign, 255 none.
-fn option_in(word: &[u8]) -> u8 {
-    let n = texts::find(
-        b"--ram\n--slots\n--protect\n--version\n--help\n-h\n",
-        6,
-        word,
-    );
-    if (n == 255) & (words::byte_at(word, 0) == b'-') {
-        return 6;
-    }
-    n
-}
-
-fn option(rt: &impl Env, i: usize) -> u8 {
+fn named(rt: &impl Env, i: usize) -> Given {
     let mut room = io::buffer();
-    let n = argument(rt, i, &mut room);
-    option_in(words::front(&room, n))
-}
-
-// One argument that is no number.
-fn with_argument(rt: &(impl Print + Env), s: Settings, kind: u8, i: usize) -> Settings {
-    match kind {
-        0 => with_ram(rt, s, next(i)),
-        1 => with_slots(rt, s, next(i)),
-        2 => with_stretch(rt, s, next(i)),
-        3 => told_version(rt, s),
-        4 | 5 => told_help(rt, s),
-        6 => bad(rt, s, b"there is no such option", i),
-        _ => with_image(rt, s, i),
+    let word = argument(rt, i, &mut room);
+    match Shared::named(word) {
+        Some(option) => Given::Option(option),
+        None if word.starts_with(b"-") => Given::Strange,
+        None => Given::Image,
     }
 }
 
-fn next(i: usize) -> usize {
-    if i < 1000000 {
-        return i + 1;
-    }
-    i
-}
-
-// An option with the numbers after it: how many arguments they are.
-fn taken(kind: u8) -> usize
-    ensures { 0 < result }
-{
-    match kind {
-        2 => 3,
-        255 => 1,
-        _ => 2,
+fn with_image(s: Settings, i: usize) -> Result<Settings, Bad> {
+    match s.image {
+        None => Ok(Settings {
+            image: Some(i),
+            ..s
+        }),
+        Some(_) => Err(Bad {
+            what: b"there is more than one image",
+            at: i,
+        }),
     }
 }
 
-// The next argument that is no number.
-fn following(i: usize, n: usize, kind: u8) -> usize
-    requires { i < n }
-    ensures { (i < result) × (result ≤ n) }
-{
-    let k = taken(kind);
-    if k < n - i {
-        return i + k;
-    }
-    n
+// A number of an option is without a sign.
+fn unsigned(word: &[u8]) -> Option<u16> {
+    Some(numbers::unsigned(word).ok()?.bits)
 }
 
-pub fn read(rt: &(impl Print + Env)) -> Settings {
+fn with_argument(rt: &impl Env, s: Settings, given: Given, i: usize) -> Result<Settings, Bad> {
+    match given {
+        Given::Option(option) => Ok(Settings {
+            board: s.board.with(rt, option, i, unsigned)?,
+            ..s
+        }),
+        Given::Strange => Err(Bad {
+            what: b"there is no such option",
+            at: i,
+        }),
+        Given::Image => with_image(s, i),
+    }
+}
+
+// The settings with one argument more; None where the desk is not to start, which is told.
+fn taken(rt: &(impl Print + Env), s: Settings, given: Given, i: usize) -> Option<Settings> {
+    match given {
+        Given::Option(Shared::Version) => version::show(rt),
+        Given::Option(Shared::Help) => told_help(rt),
+        _ => match with_argument(rt, s, given, i) {
+            Ok(more) => return Some(more),
+            Err(bad) => told(rt, bad),
+        },
+    }
+    None
+}
+
+pub fn read(rt: &(impl Print + Env)) -> Option<Settings> {
     let mut s = Settings {
-        ram: 30000,
-        words: 32768,
-        first: 1,
-        last: 0,
-        is_protecting: false,
-        image: 0,
-        is_good: true,
+        board: Board::new(),
+        image: None,
     };
     let n = count(rt);
     let mut i: usize = 1;
     while i < n {
-        let kind = option(rt, i);
-        s = with_argument(rt, s, kind, i);
-        if !s.is_good {
-            return s;
-        }
-        i = following(i, n, kind);
+        let given = named(rt, i);
+        s = taken(rt, s, given, i)?;
+        i = following(i, n, given.taken());
     }
-    s
+    Some(s)
 }
 
 // The protected addresses, told where they are given.
-pub fn tell_stretch(rt: &impl Print, s: Settings) {
-    if !s.is_protecting {
+pub fn tell_stretch(rt: &impl Print, stretch: Option<(u16, u16)>) {
+    let Some((first, last)) = stretch else {
         return;
-    }
-    if s.last < s.first {
+    };
+    if last < first {
         report::text(rt, b"nothing is protected: first ");
-        report::hex(rt, s.first as u64, 4);
+        report::hex(rt, first as u64, 4);
         report::text(rt, b" is above last ");
     } else {
         report::text(rt, b"protected ");
-        report::hex(rt, s.first as u64, 4);
+        report::hex(rt, first as u64, 4);
         report::text(rt, b" to ");
     }
-    report::hex(rt, s.last as u64, 4);
+    report::hex(rt, last as u64, 4);
     report::end(rt);
 }

@@ -14,34 +14,29 @@ const EISDIR: i32 = 21;
 
 const STDERR_FILENO: i32 = 2;
 
-fn reason(rt: &impl Print, error: &Error, otherwise: &[u8], path: &[u8]) {
-    let number = error.raw_os_error().unwrap_or(0);
-    if number == ENOENT {
-        values::complain(rt, b"there is no such file", path);
-        return;
+// What is said of a file that cannot be used; two of the reasons are told by each in its own words.
+pub fn reason<'a>(error: &Error, forbidden: &'a [u8], otherwise: &'a [u8]) -> &'a [u8] {
+    match error.raw_os_error() {
+        Some(ENOENT) => b"there is no such file",
+        Some(EACCES) => forbidden,
+        Some(EISDIR) => b"this is a folder, not a file",
+        _ => otherwise,
     }
-    if number == EACCES {
-        values::complain(rt, b"this file may not be opened by you", path);
-        return;
-    }
-    if number == EISDIR {
-        values::complain(rt, b"this is a folder, not a file", path);
-        return;
-    }
-    values::complain(rt, otherwise, path);
+}
+
+fn refused(rt: &impl Print, error: &Error, otherwise: &[u8], path: &[u8]) {
+    let why = reason(error, b"this file may not be opened by you", otherwise);
+    values::complain(rt, why, path);
 }
 
 // A file that was not opened, with the reason for that.
 pub fn unopened(rt: &impl Print, error: &Error, path: &[u8]) {
-    reason(rt, error, b"the file cannot be opened", path);
+    refused(rt, error, b"the file cannot be opened", path);
 }
 
 // A file's name as the system takes it from here, which is as text.
 pub fn name(path: &[u8]) -> Result<&str> {
-    match str::from_utf8(path) {
-        Ok(text) => Ok(text),
-        Err(_) => Err(Error::from(ErrorKind::InvalidInput)),
-    }
+    str::from_utf8(path).map_err(|_| Error::from(ErrorKind::InvalidInput))
 }
 
 fn opened<R: Files>(rt: &R, path: &[u8]) -> Result<R::File> {
@@ -66,7 +61,7 @@ fn readable<F: Read + Drop>(rt: &impl Print, file: F, path: &[u8]) -> Option<F> 
     match file.read(&mut none[0..0]) {
         Ok(_) => Some(file),
         Err(e) => {
-            reason(rt, &e, b"the file cannot be read", path);
+            refused(rt, &e, b"the file cannot be read", path);
             None
         }
     }
@@ -83,14 +78,12 @@ pub fn hold_standard<R: Files>(rt: &R)
 where
     R::File: AsRawFd + IntoRawFd,
 {
-    let mut i: u8 = 0;
-    while i < 3 {
+    for _ in 0..3 {
         if let Ok(file) = fs::open(rt, "/dev/null") {
             if STDERR_FILENO < file.as_raw_fd() {
                 return;
             }
             let _ = file.into_raw_fd();
         }
-        i += 1;
     }
 }

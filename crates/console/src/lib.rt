@@ -7,7 +7,6 @@ pub mod files;
 pub mod lines;
 pub mod paths;
 pub mod rows;
-pub mod texts;
 pub mod values;
 pub mod version;
 pub mod words;

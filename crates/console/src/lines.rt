@@ -1,60 +1,47 @@
 // Lines from a file or a terminal.
-use crate::{rows, words};
+use crate::rows::Row;
 use std::io::Read;
 
-// How many bytes the line has.
+// How many bytes are read of a line that does not end.
+const MOST: usize = 1000000;
+
+// Why a line is not handed on: it is longer than the room for it, or does not end.
 #[derive(Clone, Copy)]
-pub enum Line {
-    Is(usize),
+pub enum Unfit {
     TooLong,
     Endless,
-    End,
 }
 
-// One byte, or 256 at the end.
-fn byte(file: &mut impl Read) -> u16 {
+// One byte; None at the end.
+fn byte(file: &mut impl Read) -> Option<u8> {
     let mut one = [0u8; 1];
     match file.read(&mut one) {
-        Ok(1) => wide(one[0]),
-        _ => 256,
+        Ok(1) => Some(one[0]),
+        _ => None,
     }
 }
 
-fn wide(b: u8) -> u16 {
-    b as u16
+// How many bytes a line has that has ended, of which so many were read; a carriage return before its end is no part of it.
+fn ended(line: &[u8], read: usize) -> Result<usize, Unfit> {
+    if line.len() < read {
+        return Err(Unfit::TooLong);
+    }
+    match line {
+        [front @ .., b'\r'] => Ok(front.len()),
+        _ => Ok(line.len()),
+    }
 }
 
-// A line that has ended; a carriage return before its end is no part of it.
-fn ended(line: &[u8], n: usize, read: usize) -> Line {
-    if n < read {
-        return Line::TooLong;
-    }
-    if n == 0 {
-        return Line::Is(0);
-    }
-    if words::byte_at(line, n - 1) == b'\r' {
-        return Line::Is(n - 1);
-    }
-    Line::Is(n)
-}
-
-// The next line, put at the start of `out` without its newline. A line that does not end within a million bytes is endless.
-pub fn read(file: &mut impl Read, out: &mut [u8]) -> Line {
-    let mut n: usize = 0;
-    let mut i: usize = 0;
-    while i < 1000000 {
-        let b = byte(file);
-        if b == 10 {
-            return ended(out, n, i);
+// The next line, put at the start of `out` without its newline: how many bytes it has; None at the input's end. A line that does not end within a million
+// bytes is endless.
+pub fn read(file: &mut impl Read, out: &mut [u8]) -> Result<Option<usize>, Unfit> {
+    let mut line = Row::new(out);
+    for i in 0..MOST {
+        match byte(file) {
+            None if i == 0 => return Ok(None),
+            None | Some(b'\n') => return Ok(Some(ended(line.bytes(), i)?)),
+            Some(b) => line.put(b),
         }
-        if 255 < b {
-            if i == 0 {
-                return Line::End;
-            }
-            return ended(out, n, i);
-        }
-        n = rows::put(out, n, b as u8);
-        i += 1;
     }
-    Line::Endless
+    Err(Unfit::Endless)
 }

@@ -1,6 +1,62 @@
 // Bytes put one after the other: rows of text before they are written, names, copies of memory.
 use crate::words;
 
+// A room for bytes, and how far it is filled. What finds no room is let go.
+#[derive(Drop)]
+pub struct Row<'a> {
+    room: &'a mut [u8],
+    filled: usize,
+}
+
+impl<'a> Row<'a> {
+    pub fn new(room: &'a mut [u8]) -> Row<'a> {
+        Row { room, filled: 0 }
+    }
+
+    pub fn put(&mut self, b: u8) {
+        if self.filled < self.room.len() {
+            self.room[self.filled] = b;
+            self.filled += 1;
+        }
+    }
+
+    pub fn put_all(&mut self, bytes: &[u8]) {
+        for &b in bytes {
+            self.put(b);
+        }
+    }
+
+    pub fn put_hex(&mut self, n: u16, width: usize) {
+        let mut digits = [0u8; 16];
+        let k = io::hex(n as u64, width, &mut digits);
+        self.put_all(&digits[..k]);
+    }
+
+    // With blanks in front, as many as make the width.
+    pub fn put_decimal(&mut self, n: u16, width: usize) {
+        let mut digits = [0u8; 20];
+        let k = io::decimal(n as u64, &mut digits);
+        for _ in k..width {
+            self.put(b' ');
+        }
+        self.put_all(&digits[..k]);
+    }
+
+    // The next byte goes to a place, and what stands before it stays.
+    pub fn to(&mut self, place: usize) {
+        self.filled = place;
+    }
+
+    // What was put.
+    pub fn bytes(&self) -> &[u8] {
+        words::front(self.room, self.filled)
+    }
+
+    pub fn write(&self, rt: &impl Print) {
+        report::text(rt, self.bytes());
+    }
+}
+
 // A byte at a place, and the place after it; past the row's end nothing.
 pub fn put(row: &mut [u8], at: usize, b: u8) -> usize {
     if at < row.len() {
@@ -12,10 +68,8 @@ pub fn put(row: &mut [u8], at: usize, b: u8) -> usize {
 
 pub fn put_all(row: &mut [u8], at: usize, bytes: &[u8]) -> usize {
     let mut p = at;
-    let mut i: usize = 0;
-    while i < bytes.len() {
-        p = put(row, p, bytes[i]);
-        i += 1;
+    for &b in bytes {
+        p = put(row, p, b);
     }
     p
 }
@@ -26,21 +80,13 @@ pub fn put_hex(row: &mut [u8], at: usize, n: u16, width: usize) -> usize {
     put_all(row, at, &digits[0..k])
 }
 
-// Blanks for the places of a width that are not used.
-fn put_blanks(row: &mut [u8], at: usize, used: usize, width: usize) -> usize {
-    let mut p = at;
-    let mut i = used;
-    while i < width {
-        p = put(row, p, b' ');
-        i += 1;
-    }
-    p
-}
-
 pub fn put_decimal(row: &mut [u8], at: usize, n: u16, width: usize) -> usize {
     let mut digits = [0u8; 20];
     let k = io::decimal(n as u64, &mut digits);
-    let p = put_blanks(row, at, k, width);
+    let mut p = at;
+    for _ in k..width {
+        p = put(row, p, b' ');
+    }
     put_all(row, p, &digits[0..k])
 }
 

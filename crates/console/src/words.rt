@@ -1,68 +1,13 @@
 // The words of a line.
-ghost use Rattle.std.specs.Prelude.{◌≤◌, ◌<◌, length};
+ghost use Rattle.std.specs.Prelude.{◌+◌, ◌≤◌, ◌<◌, length, IfSome};
 
-// Where a word stands.
-#[derive(Clone, Copy)]
-pub struct Part {
-    pub from: usize,
-    pub to: usize,
-}
-
-// The bytes of a part; none where the line has no such part.
-pub fn cut<'a>(line: &'a [u8], p: Part) -> &'a [u8] {
-    let from = p.from;
-    let to = p.to;
-    if to <= line.len() {
-        if from <= to {
-            return &line[from..to];
-        }
-    }
-    &line[0..0]
-}
-
-// What stands from a place on.
-pub fn rest<'a>(line: &'a [u8], at: usize) -> &'a [u8] {
-    cut(
-        line,
-        Part {
-            from: at,
-            to: line.len(),
-        },
-    )
-}
-
-// The first so many bytes.
+// The first so many bytes; none where there are fewer.
 pub fn front<'a>(bytes: &'a [u8], n: usize) -> &'a [u8] {
-    cut(bytes, Part { from: 0, to: n })
+    bytes.get(..n).unwrap_or(b"")
 }
 
 pub fn is_blank(b: u8) -> bool {
     letters::is_blank(b) | (b == b'\r')
-}
-
-// The byte at a place; 0 past the end.
-pub fn byte_at(line: &[u8], at: usize) -> u8 {
-    if at < line.len() {
-        return line[at];
-    }
-    0
-}
-
-// The next place that is not blank.
-pub fn skip_blanks(line: &[u8], at: usize) -> usize
-    ensures { result ≤ length line.now }
-{
-    if line.len() <= at {
-        return line.len();
-    }
-    let mut i = at;
-    while i < line.len() {
-        if !is_blank(line[i]) {
-            return i;
-        }
-        i += 1;
-    }
-    i
 }
 
 // Where a quoted stretch stands after one more byte.
@@ -77,76 +22,48 @@ fn after(q: Quoted, quote: u8, b: u8) -> Quoted {
     match q {
         Quoted::No => Quoted::No,
         Quoted::Escaped => Quoted::Yes,
-        Quoted::Yes => {
-            if b == b'\\' {
-                return Quoted::Escaped;
-            }
-            if b == quote {
-                return Quoted::No;
-            }
-            Quoted::Yes
-        }
-    }
-}
-
-fn is_outside(q: Quoted) -> bool {
-    match q {
-        Quoted::No => true,
-        Quoted::Yes | Quoted::Escaped => false,
+        Quoted::Yes if b == b'\\' => Quoted::Escaped,
+        Quoted::Yes if b == quote => Quoted::No,
+        Quoted::Yes => Quoted::Yes,
     }
 }
 
 fn opened(quote: u8) -> Quoted {
-    if (quote == b'"') | (quote == b'\'') {
-        return Quoted::Yes;
+    match quote {
+        b'"' | b'\'' => Quoted::Yes,
+        _ => Quoted::No,
     }
-    Quoted::No
 }
 
-// A word ends at a blank, or at the line's end; blanks in the quotes that it begins with belong to it.
-fn word_end(line: &[u8], at: usize) -> usize
-    requires { at < length line.now }
-    ensures { (at < result) × (result ≤ length line.now) }
+// How long the word is that a line begins with. It ends at a blank, or at the line's end; blanks in the quotes that it begins with belong to it.
+fn word_length(line: &[u8]) -> usize
+    requires { 0 < length line.now }
+    ensures { (0 < result) × (result ≤ length line.now) }
 {
-    let quote = line[at];
+    let quote = line[0];
     let mut q = opened(quote);
-    let mut i = at + 1;
-    while i < line.len() {
-        let b = line[i];
-        if is_outside(q) & is_blank(b) {
+    for i in 1..line.len() {
+        if matches!(q, Quoted::No) & is_blank(line[i]) {
             return i;
         }
-        q = after(q, quote, b);
-        i += 1;
+        q = after(q, quote, line[i]);
     }
-    i
+    line.len()
 }
 
-// The next word; an empty one at the line's end.
-pub fn next(line: &[u8], at: usize) -> Part
-    ensures { (result.from ≤ result.to) × (result.to ≤ length line.now) }
+// The next word, and the line from its end on; None where nothing more stands there.
+pub fn next<'a>(line: &'a [u8]) -> Option<(&'a [u8], &'a [u8])>
+    ensures within { IfSome result (λ n. length n.0.now + length n.1.now ≤ length line.now) }
+    ensures shorter { IfSome result (λ n. length n.1.now < length line.now) }
 {
-    let from = skip_blanks(line, at);
-    let mut to = from;
-    if from < line.len() {
-        to = word_end(line, from);
-    }
-    Part { from, to }
+    let from = line.iter().position(|b| !is_blank(*b))?;
+    let here = &line[from..];
+    Some(here.split_at(word_length(here)))
 }
 
 // Whether a word, in either case, is the front of a name.
 pub fn is_front(word: &[u8], name: &[u8]) -> bool {
-    if name.len() < word.len() {
-        return false;
-    }
-    let mut i: usize = 0;
-    while i < word.len() {
-        if letters::lower(word[i]) != name[i] {
-            return false;
-        }
-        i += 1;
-    }
-    true
+    (word.len() <= name.len()) && word.iter().zip(name).all(|(w, n)| letters::lower(*w) == *n)
 }
 
 pub fn is_name(word: &[u8], name: &[u8]) -> bool {
