@@ -18,7 +18,7 @@ use Rattle.history.specs.Ring.{Ring, ring_of, slot_before, slot_words, popped, p
 use Rattle.history.specs.Code.{readable, newest_of}
 use Rattle.history.specs.declared.Place.{Place}
 use Rattle.history.specs.declared.TakenBack.{TakenBack}
-use Rattle.history.proofs.Copying.{before-below}
+use Rattle.history.proofs.RingLaws.{before-below}
 use Rattle.records.specs.Record.{undo_from, sound, decoded}
 use Rattle.records.specs.Code.{undo_as}
 use Rattle.records.specs.declared.Before.{Before}

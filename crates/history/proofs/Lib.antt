@@ -5,4 +5,3 @@ pub mod RingLaws
 pub mod Amending
 pub mod Variable
 pub mod Runs
-pub mod Copying

@@ -1,5 +1,5 @@
 -- Old bytes put back give the memory before; and what a write of no, one or two bytes touches.
-use Prim.Native.Nat.{ℕ, zero, suc, ◌<◌}
+use Prim.Native.Nat.{ℕ, suc, ◌<◌}
 use mathlib.Core.Path.{◌≡◌, refl, ◌∙◌}
 use mathlib.Core.List.{List}
 use native.Mathlib.Decide.{ℕ_discrete}
@@ -7,7 +7,7 @@ use native.Mathlib.Omega.{arith}
 use lib.ListN.{length, get_or, set, length-set}
 use lib.Seq.{ext_get_or, get_or-set_same, get_or-set_other}
 use Rattle.word.specs.Word.{above}
-use Rattle.history.specs.Undo.{restored, Touched}
+use Rattle.history.specs.Undo.{Touched}
 
 patch : (l m : List ℕ) (i k : ℕ) → k < length l → ((k ≡ i → ⊥) → get_or l k 0 ≡ get_or m k 0) → get_or (set l i (get_or m i 0)) k 0 ≡ get_or m k 0
 patch l m i k h e = go (ℕ_discrete k i)
@@ -43,15 +43,3 @@ touched-two a v w m =
       same_length = simp length-set;
       elsewhere = λ k p q. get_or-set_other (set m a v) (above a) k w 0 (q (omega arith)) ∙ get_or-set_other m a k v 0 (p (omega arith));
     }
-
--- what comes back, by the count
-pub back_none : (n a x y : ℕ) (m : List ℕ) → n ≡ 0 → restored n a x y m ≡ m
-back_none n a x y m e = rw e
-
-pub back_one : (n a x y : ℕ) (m : List ℕ) → n ≡ 1 → restored n a x y m ≡ set m a x
-back_one n a x y m e = rw e
-
-pub back-two : (n a x y : ℕ) (m : List ℕ) → (n ≡ 0 → ⊥) → (n ≡ 1 → ⊥) → restored n a x y m ≡ set (set m a x) (above a) y
-back-two zero a x y m none one = absurd (none refl)
-back-two (suc zero) a x y m none one = absurd (one refl)
-back-two (suc (suc n)) a x y m none one = refl

@@ -12,7 +12,6 @@ use lib.ListN.{length, take, drop, get_or, length-take, length-drop, get_or-appe
 use lib.Seq.{paste, length-paste, ext_get_or, get_or-take, get_or-drop, drop_at, take_at, take_all, length-take-le, drop-paste}
 use Rattle.history.specs.Trace.{hands}
 use Rattle.history.proofs.Exact.{Keeping}
-use Rattle.history.proofs.Copying.{before-below}
 use Rattle.history.proofs.Pushing.{push-in, push-out}
 use Rattle.history.specs.Ring.{Ring, slot_after, slot_before, slot_words, pushed, ring}
 
@@ -57,6 +56,10 @@ slot-other d q p r hq hp size ne =
     go i z (no l) = get_d-high d (q * 32) r hq size (p * 32 + i) (let m : q < p = omega arith in omega arith)
 
 -- ---- slots, counted backwards
+pub before-below : (n k : ℕ) → k < n → slot_before n k < n
+before-below n zero h = omega arith
+before-below n (suc k) h = omega arith
+
 after-cases : (n q : ℕ) → q < n → ((slot_after n q ≡ 0) × (q + 1 ≡ n)) ⊎ ((slot_after n q ≡ q + 1) × (q + 1 < n))
 after-cases n q h = go (ℕ_discrete (q + 1) n)
   where

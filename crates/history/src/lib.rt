@@ -28,11 +28,7 @@ fn write_slot(journal: &mut [u16], slot: usize, words: [u16; 32])
     ensures { journal.new ≡ paste journal.old (slot * 32) words 32 }
 {
     let at = slot * 32;
-    let mut i = 0;
-    while i < 32 {
-        journal[at + i] = words[i];
-        i += 1;
-    }
+    journal[at..at + 32].copy_from_slice(&words);
 }
 
 fn slot_after(n: usize, k: usize) -> usize
@@ -50,30 +46,27 @@ fn one_more(n: usize, held: usize) -> usize
 }
 
 // A record at the next slot, over the oldest if full; nothing where there is no such slot.
+#[tactic(auto, unfolding(crate::specs::Ring::pushed))]
 pub fn push(journal: &mut [u16], place: Place, words: [u16; 32]) -> Place
     ensures { ring_of journal.new result.next result.held ≡ pushed (slots journal.old) words (ring_of journal.old place.next place.held) }
 {
     let n = journal.len() / 32;
-    let next = place.next;
-    let held = place.held;
-    if n <= next {
+    if n <= place.next {
         return place;
     }
-    write_slot(journal, next, words);
+    write_slot(journal, place.next, words);
     Place {
-        next: slot_after(n, next),
-        held: one_more(n, held),
+        next: slot_after(n, place.next),
+        held: one_more(n, place.held),
     }
 }
 
 // Three words of a slot, from one of its words on; nothing where the slot does not have all three.
+#[tactic(auto, unfolding(crate::specs::Code::amended))]
 pub fn amend(journal: &mut [u16], slot: usize, from: usize, x: u16, y: u16, z: u16)
     ensures { journal.new ≡ amended journal.old slot from x y z }
 {
-    if journal.len() / 32 <= slot {
-        return;
-    }
-    if 30 <= from {
+    if journal.len() / 32 <= slot || 30 <= from {
         return;
     }
     let at = slot * 32 + from;
@@ -82,44 +75,28 @@ pub fn amend(journal: &mut [u16], slot: usize, from: usize, x: u16, y: u16, z: u
     journal[at + 2] = z;
 }
 
-fn one_less(n: usize) -> usize
-    ensures { result ≡ n - 1 }
-{
-    if 0 < n { n - 1 } else { 0 }
-}
-
 // The slot of the newest record.
 fn newest(n: usize, next: usize) -> usize
     ensures { result ≡ slot_before n next }
 {
     if 0 < next {
-        return next - 1;
+        next - 1
+    } else {
+        n.saturating_sub(1)
     }
-    one_less(n)
-}
-
-fn copy_slot(journal: &[u16], slot: usize) -> [u16; 32]
-    requires { slot * 32 + 32 ≤ length journal.now }
-    ensures { result ≡ slot_words journal.now slot }
-{
-    let at = slot * 32;
-    let mut words = [0u16; 32];
-    let mut i = 0;
-    while i < 32 {
-        words[i] = journal[at + i];
-        i += 1;
-    }
-    words
 }
 
 // The 32 words of a slot.
+#[tactic(auto, unfolding(crate::specs::Code::readable))]
 fn read_slot(journal: &[u16], slot: usize) -> [u16; 32]
     ensures { result ≡ readable journal.now slot }
 {
+    let mut words = [0; 32];
     if slot < journal.len() / 32 {
-        return copy_slot(journal, slot);
+        let at = slot * 32;
+        words.copy_from_slice(&journal[at..at + 32]);
     }
-    [0u16; 32]
+    words
 }
 
 // The newest record's words, and next slot and records held once it is taken back. Whether a record is held is the caller's question.
@@ -127,10 +104,11 @@ pub fn pop(journal: &[u16], place: Place) -> TakenBack
     ensures { result ≡ newest_of journal.now place }
 {
     let slot = newest(journal.len() / 32, place.next);
-    let words = read_slot(journal, slot);
-    let held = one_less(place.held);
     TakenBack {
-        words,
-        place: Place { next: slot, held },
+        words: read_slot(journal, slot),
+        place: Place {
+            next: slot,
+            held: place.held.saturating_sub(1),
+        },
     }
 }

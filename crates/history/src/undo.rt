@@ -8,6 +8,7 @@ use word::sums;
 fn put(ram: &mut [u8], at: u16, b: u8)
     ensures { ram.new ≡ set ram.old at b }
 {
+    // By `get_mut` it was tried: what memory is where it answers None is then lost to the proof.
     let i = at as usize;
     if i < ram.len() {
         ram[i] = b;
@@ -18,12 +19,12 @@ fn put(ram: &mut [u8], at: u16, b: u8)
 pub fn restore(ram: &mut [u8], count: u16, first: u16, low: u8, high: u8)
     ensures { ram.new ≡ restored count first low high ram.old }
 {
-    if count == 0 {
-        return;
+    match count {
+        0 => {}
+        1 => put(ram, first, low),
+        _ => {
+            put(ram, first, low);
+            put(ram, sums::plus(first, 1), high);
+        }
     }
-    put(ram, first, low);
-    if count == 1 {
-        return;
-    }
-    put(ram, sums::plus(first, 1), high);
 }
