@@ -2,6 +2,8 @@
 #![tactic(auto)]
 
 ghost use Rattle.std.specs.Prelude.{◌≡◌, ◌-◌, ◌%◌, ◌≤◌};
+ghost use Rattle.std.specs.Bool.{xor};
+ghost use Rattle.word.specs.Bits.{bit_at};
 ghost use Rattle.alu.specs.Unit.{flags_of, answer_as, add_of, sub_of, logic_of, last_out, shl_of, shr_of, shra_of, alu_of, compare_of};
 
 use word::{bits, choice, signed, sums};
@@ -51,6 +53,7 @@ struct Outcome {
     o: bool,
 }
 
+#[tactic(auto, unfolding(crate::specs::Unit::add_of))]
 fn add(a: u16, b: u16) -> Outcome
     ensures { answer_as result ≡ add_of a b }
 {
@@ -61,6 +64,7 @@ fn add(a: u16, b: u16) -> Outcome
     }
 }
 
+#[tactic(auto, unfolding(crate::specs::Unit::sub_of))]
 fn sub(a: u16, b: u16) -> Outcome
     ensures { answer_as result ≡ sub_of a b }
 {
@@ -71,6 +75,7 @@ fn sub(a: u16, b: u16) -> Outcome
     }
 }
 
+#[tactic(auto, unfolding(crate::specs::Unit::logic_of))]
 fn logic(v: u16) -> Outcome
     ensures { answer_as result ≡ logic_of v }
 {
@@ -90,6 +95,7 @@ fn last_left(a: u16, n: u16) -> bool
 }
 
 // To the right. There it would stand just below the word; so the word is doubled first, which leaves a 0 there for a shift by 0.
+#[tactic(auto, using(crate::proofs::LastOut::under))]
 fn last_right(a: u16, n: u16) -> bool
     requires { n ≤ 16 }
     ensures { result ≡ last_out a n (n - 1) }
@@ -97,28 +103,34 @@ fn last_right(a: u16, n: u16) -> bool
     ((a as u32 * 2) >> n) % 2 == 1
 }
 
+// What a shift has put out and left of a word; it overflows where the sign is another one.
+fn shifted(a: u16, value: u16, last: bool) -> Outcome
+    ensures value { result.value ≡ value }
+    ensures carry { result.c ≡ last }
+    ensures overflow { result.o ≡ xor (bit_at a 15) (bit_at value 15) }
+{
+    Outcome {
+        value,
+        c: last,
+        o: choice::unlike(bits::bit(a, 15), bits::bit(value, 15)),
+    }
+}
+
+#[tactic(auto, unfolding(crate::specs::Unit::shl_of))]
 fn shl(a: u16, by: u16) -> Outcome
     ensures { answer_as result ≡ shl_of a (by % 16) }
 {
-    let v = bits::shl(a, by);
-    Outcome {
-        value: v,
-        c: last_left(a, by % 16),
-        o: choice::unlike(bits::bit(a, 15), bits::bit(v, 15)),
-    }
+    shifted(a, bits::shl(a, by), last_left(a, by % 16))
 }
 
+#[tactic(auto, unfolding(crate::specs::Unit::shr_of))]
 fn shr(a: u16, by: u16) -> Outcome
     ensures { answer_as result ≡ shr_of a (by % 16) }
 {
-    let v = bits::shr(a, by);
-    Outcome {
-        value: v,
-        c: last_right(a, by % 16),
-        o: choice::unlike(bits::bit(a, 15), bits::bit(v, 15)),
-    }
+    shifted(a, bits::shr(a, by), last_right(a, by % 16))
 }
 
+#[tactic(auto, unfolding(crate::specs::Unit::shra_of))]
 fn shra(a: u16, by: u16) -> Outcome
     ensures { answer_as result ≡ shra_of a (by % 16) }
 {
@@ -130,6 +142,7 @@ fn shra(a: u16, by: u16) -> Outcome
     }
 }
 
+#[tactic(auto, unfolding(crate::specs::Unit::alu_of))]
 fn operate(op: AluOp, d: u16, s: u16) -> Outcome
     ensures { answer_as result ≡ alu_of op d s }
 {
@@ -165,6 +178,7 @@ pub fn compute(op: AluOp, d: u16, s: u16) -> Answer
 }
 
 // The flags of a comparison, which stores no value.
+#[tactic(auto, unfolding(crate::specs::Unit::compare_of))]
 pub fn compare(op: CompareOp, d: u16, s: u16) -> u16
     ensures { result ≡ compare_of op d s }
 {

@@ -15,25 +15,20 @@ const CLOCK_LOW: u16 = 0xfff0;
 
 const CLOCK_HIGH: u16 = 0xfff1;
 
+#[tactic(auto, unfolding(crate::specs::Addresses::device_byte))]
 fn device_byte(v: Devices, a: u16) -> u8
     ensures { result ≡ device_byte v a }
 {
-    if a == RXD {
-        return v.rxd;
+    match a {
+        RXD => v.rxd,
+        READY => (choice::weigh(v.r, 1) + choice::weigh(v.t, 2)) as u8,
+        CLOCK_LOW => halves::low(v.clock),
+        CLOCK_HIGH => halves::high(v.clock),
+        _ => 0,
     }
-    if a == READY {
-        let ready = choice::weigh(v.r, 1) + choice::weigh(v.t, 2);
-        return ready as u8;
-    }
-    if a == CLOCK_LOW {
-        return halves::low(v.clock);
-    }
-    if a == CLOCK_HIGH {
-        return halves::high(v.clock);
-    }
-    0
 }
 
+#[tactic(auto, unfolding(crate::specs::Addresses::byte_at))]
 pub fn read_byte(v: Devices, ram: &[u8], a: u16) -> u8
     ensures { result ≡ byte_at v ram.now a }
 {
@@ -45,36 +40,37 @@ pub fn read_byte(v: Devices, ram: &[u8], a: u16) -> u8
     }
 }
 
+#[tactic(auto, unfolding(crate::specs::Addresses::word_at))]
 pub fn read_word(v: Devices, ram: &[u8], a: u16) -> u16
     ensures { result ≡ word_at v ram.now a }
 {
     halves::join(read_byte(v, ram, a), read_byte(v, ram, sums::plus(a, 1)))
 }
 
+#[tactic(auto, unfolding(crate::specs::Addresses::device_after))]
 fn device_after(v: Devices, a: u16, b: u8) -> Devices
     ensures { result ≡ device_after v a b }
 {
-    let mut u = v;
-    if a == TXD {
-        if v.t {
-            u.txd = b;
-            u.t = false;
-        }
-        return u;
+    match a {
+        TXD if v.t => Devices {
+            txd: b,
+            t: false,
+            ..v
+        },
+        RXD => Devices { r: false, ..v },
+        _ => v,
     }
-    if a == RXD {
-        u.r = false;
-    }
-    u
 }
 
-// Whether a store by an instruction to this address is dropped, where RAM has so many bytes.
+// Whether a store by an instruction to this address is dropped, where RAM has so many bytes. By `&`, and not by a range's `contains`, so that no test is a branch.
+#[tactic(auto, unfolding(crate::specs::Addresses::dropped))]
 pub fn drops(p: Stretch, ram: usize, a: u16) -> bool
     ensures { result ≡ dropped p ram a }
 {
     ((a as usize) < ram) & ((p.first <= a) & (a <= p.last))
 }
 
+#[tactic(auto, unfolding(crate::specs::Addresses::put_byte))]
 pub fn write_byte(b: Board, ram: &mut [u8], a: u16, x: u8) -> Board
     ensures { bus result ram.new ≡ put_byte (bus b ram.old) a x }
 {
@@ -93,6 +89,7 @@ pub fn write_byte(b: Board, ram: &mut [u8], a: u16, x: u8) -> Board
     u
 }
 
+#[tactic(auto, unfolding(crate::specs::Addresses::put_word))]
 pub fn write_word(b: Board, ram: &mut [u8], a: u16, w: u16) -> Board
     ensures { bus result ram.new ≡ put_word (bus b ram.old) a w }
 {

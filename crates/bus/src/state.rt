@@ -42,12 +42,13 @@ pub struct Cpu {
 }
 
 // The state at the start and after a reset, of a machine with these protected addresses.
+#[tactic(auto, unfolding(crate::specs::State::reset))]
 pub fn reset(stretch: Stretch) -> Cpu
     ensures { result ≡ reset_of stretch }
 {
     Cpu {
-        regs: [0u16; 16],
-        csrs: [0u16; 6],
+        regs: [0; 16],
+        csrs: [0; 6],
         board: Board {
             devices: Devices {
                 clock: 0,
