@@ -32,7 +32,9 @@ pub struct Words {
 fn count_blanks(text: &[u8]) -> usize
     ensures { result ≡ length (run blank text.now) }
 {
-    text.iter().position(|&b| !letters::is_blank(b)).unwrap_or(text.len())
+    text.iter()
+        .position(|&b| !letters::is_blank(b))
+        .unwrap_or(text.len())
 }
 
 // How many letters, digits and underscores a text begins with. One function with the test as a parameter would be no plainer than these two: its clause
@@ -40,7 +42,9 @@ fn count_blanks(text: &[u8]) -> usize
 fn count_wordy(text: &[u8]) -> usize
     ensures { result ≡ length (run wordy text.now) }
 {
-    text.iter().position(|&b| !letters::is_wordy(b)).unwrap_or(text.len())
+    text.iter()
+        .position(|&b| !letters::is_wordy(b))
+        .unwrap_or(text.len())
 }
 
 // Past the blanks that stand at `at`.
