@@ -1,8 +1,6 @@
 -- UTF-8, by Unicode's table of well-formed byte sequences.
-use Rattle.std.specs.Prelude.{ℕ, zero, suc, ◌+◌, ◌-◌, ◌*◌, ◌/◌, ◌%◌, Bool, true, cond, ◌&&◌, ◌||◌, List, [], ◌∷◌, ◌++◌, leb, ltb}
-use Rattle.std.proofs.Math.Option.{Option, some, none}
+use Rattle.std.specs.Prelude.{ℕ, zero, suc, ◌+◌, ◌-◌, ◌*◌, ◌/◌, ◌%◌, Bool, true, cond, ◌&&◌, ◌||◌, List, [], ◌∷◌, ◌++◌, leb, ltb, Option, Some, None}
 use Rattle.utf8.specs.declared.Letter.{Letter}
-use Rattle.utf8.specs.declared.Letter.TheVariants.{Is, Bad}
 
 -- a row of the table: lead bytes from `first` to `last`, and the number that a lead byte counts from; how many bytes follow it; from `low` to `high` the
 -- first that follows, where one does: any other is from 0x80 to 0xbf
@@ -31,37 +29,41 @@ table =
     ∷ row 0xf4 0xf4 0xf0 3 0x80 0x8f
     ∷ []
 
+-- a letter that was read: its code point, and how many bytes it takes
+abbrev pub letter : ℕ → ℕ → Option Letter
+letter c n = Some (record { point = c; length = n })
+
 abbrev pub between : ℕ → ℕ → ℕ → Bool
 between l h x = leb l x && leb x h
 
 -- the letter that a lead byte with value v begins, and of which n bytes are still to come, the next from l to h: six bits more by each
-abbrev pub followed : ℕ → ℕ → ℕ → ℕ → ℕ → List ℕ → Letter
-followed length v zero l h s = Is v length
-followed length v (suc n) l h [] = Bad
-followed length v (suc n) l h (x ∷ s) = cond (between l h x) (followed length (v * 64 + (x - 0x80)) n 0x80 0xbf s) Bad
+abbrev pub followed : ℕ → ℕ → ℕ → ℕ → ℕ → List ℕ → Option Letter
+followed length v zero l h s = letter v length
+followed length v (suc n) l h [] = None
+followed length v (suc n) l h (x ∷ s) = cond (between l h x) (followed length (v * 64 + (x - 0x80)) n 0x80 0xbf s) None
 
 -- by the first of the rows that has the lead byte
-abbrev pub by_rows : List Row → ℕ → List ℕ → Letter
-by_rows [] x s = Bad
+abbrev pub by_rows : List Row → ℕ → List ℕ → Option Letter
+by_rows [] x s = None
 by_rows (r ∷ rs) x s = cond (between r.first r.last x) (followed (r.more + 1) (x - r.base) r.more r.low r.high s) (by_rows rs x s)
 
 -- the letter at the front of some bytes: its code point, and how many bytes it takes
-unfoldable pub letter_of : List ℕ → Letter
-letter_of [] = Bad
+unfoldable pub letter_of : List ℕ → Option Letter
+letter_of [] = None
 letter_of (x ∷ s) = by_rows table x s
 
 abbrev pub onto : ℕ → Option (List ℕ) → Option (List ℕ)
-onto c none = none
-onto c (some cs) = some (c ∷ cs)
+onto c None = None
+onto c (Some cs) = Some (c ∷ cs)
 
 -- a letter, and what is read after the rest of its bytes
-abbrev pub begins : Letter → (ℕ → Option (List ℕ)) → Option (List ℕ)
-begins (Is c n) on = onto c (on (n - 1))
-begins Bad on = none
+abbrev pub begins : Option Letter → (ℕ → Option (List ℕ)) → Option (List ℕ)
+begins (Some l) on = onto l.point (on (l.length - 1))
+begins None on = None
 
 -- the code points of bytes of which the first k are of a letter that was read
 unfoldable pub points_after : ℕ → List ℕ → Option (List ℕ)
-points_after k [] = some []
+points_after k [] = Some []
 points_after (suc k) (x ∷ s) = points_after k s
 points_after zero (x ∷ s) = begins (letter_of (x ∷ s)) (λ (k : ℕ). points_after k s)
 

@@ -1,24 +1,24 @@
-use Prim.Native.Nat.{◌+◌, ◌-◌, ◌≤◌}
+use Prim.Native.Nat.{◌+◌, ◌≤◌}
 use mathlib.Core.Path.{◌≡◌, sym, ◌∙◌}
 use mathlib.Core.Bool.{cond}
 use native.Mathlib.Omega.{arith}
 use lib.ListN.{length, drop}
-use Rattle.utf8.specs.Utf8.{letter_of}
+use Rattle.utf8.specs.Utf8.{letter, letter_of}
 use Rattle.utf8.specs.Latin.{judged_of}
-use Rattle.utf8.specs.declared.Letter.TheVariants.{Is}
-use Rattle.utf8.specs.declared.Judged.TheVariants.{Fine, NotLatin}
+use Rattle.std.specs.Prelude.{Ok, Err}
+use Rattle.utf8.specs.declared.Unfit.TheVariants.{NotLatin}
 use Rattle.utf8.proofs.Reading.{moves-on, stays_within}
 use Rattle.utf8.proofs.Judging.{at_first, at-letter, at-bad, at_last}
 use Rattle.utf8.proofs.judge.Goals as goal
-use Rattle.utf8.proofs.judge.Goals.{After-loop-i, In-Is}
+use Rattle.utf8.proofs.judge.Goals.{After-loop-i, In-Some}
 
 -- the letter that was read
-read : (c : In-Is)
-    → letter_of (drop c.loop-i.i c.args.name.now) ≡ Is c.in-Is.point c.in-Is.length
-read c = sym c.letter_at.ensures ∙ c.in-Is.is
+read : (c : In-Some)
+    → letter_of (drop c.loop-i.i c.args.name.now) ≡ letter c.in-Some.letter.point c.in-Some.letter.length
+read c = sym c.letter_at.ensures ∙ c.in-Some.is
 
-within : (c : In-Is)
-    → let m = c.in-Is.length in
+within : (c : In-Some)
+    → let m = c.in-Some.letter.length in
     (1 ≤ m) × (c.loop-i.i + m ≤ length c.args.name.now)
 within c =
     let s = c.args.name.now in
@@ -26,7 +26,7 @@ within c =
 
 -- past the last letter
 past : (c : After-loop-i)
-    → cond c.loop-i.latin (Fine c.loop-i.n) NotLatin ≡ judged_of c.args.name.now
+    → cond c.loop-i.latin (Ok c.loop-i.n) (Err NotLatin) ≡ judged_of c.args.name.now
 past c =
     let l = c.loop-i in
     sym (at_last c.args.name.now l.i l.latin l.n (omega arith)) ∙ l.invariant.2
@@ -40,19 +40,19 @@ returns-in_default c = let l = c.loop-i in
     ∙ l.invariant.2
 
 pub overflow_add-n : goal.overflow_add-n
-overflow_add-n c = omega (arith, within (goal.at.overflow_add-n c).In-Is, c.loop-i.invariant.0)
+overflow_add-n c = omega (arith, within (goal.at.overflow_add-n c).In-Some, c.loop-i.invariant.0)
 
 pub overflow_add-i : goal.overflow_add-i
-overflow_add-i c = omega (arith, within (goal.at.overflow_add-i c).In-Is)
+overflow_add-i c = omega (arith, within (goal.at.overflow_add-i c).In-Some)
 
 pub loop-i-smaller : goal.loop-i-smaller
-loop-i-smaller c = omega (arith, within (goal.at.loop-i-smaller c).In-Is)
+loop-i-smaller c = omega (arith, within (goal.at.loop-i-smaller c).In-Some)
 
 pub loop-i-preserved : goal.loop-i-preserved
 loop-i-preserved c = let l = c.loop-i in (
-  omega (arith, within (goal.at.loop-i-preserved c).In-Is, l.invariant.0),
-  (within (goal.at.loop-i-preserved c).In-Is).1,
-  sym (at-letter c.args.name.now l.i l.latin l.n c.in-Is.point c.in-Is.length (read (goal.at.loop-i-preserved c).In-Is)) ∙ l.invariant.2,
+  omega (arith, within (goal.at.loop-i-preserved c).In-Some, l.invariant.0),
+  (within (goal.at.loop-i-preserved c).In-Some).1,
+  sym (at-letter c.args.name.now l.i l.latin l.n c.in-Some.letter.point c.in-Some.letter.length (read (goal.at.loop-i-preserved c).In-Some)) ∙ l.invariant.2,
 )
 
 pub returns-then-latin : goal.returns-then-latin
