@@ -1,15 +1,20 @@
--- A key's bytes are the name that it was made of; the loops over a key, and the three keys of a word's text.
-use mathlib.Core.Path.{◌≡◌, refl, sym, ◌∙◌}
+-- A key's bytes are the name that it was made of; how many they are; and the three keys of a word's text.
+use mathlib.Core.Path.{◌≡◌, refl, sym, ap, ◌∙◌}
 use mathlib.Core.Bool.{Bool, true, false, cond, ◌&&◌}
 use mathlib.Core.List.{List, [], ◌∷◌, ◌++◌, append_assoc}
 use mathlib.Core.Logic.{⊎_elim}
 use Prim.Native.Nat.{ℕ, zero, suc, ◌+◌, ◌*◌, ◌-◌, ◌/◌, ◌%◌, ◌^◌, ◌<◌, ◌≤◌}
-use native.Mathlib.Numerals.{add-one}
 use native.Mathlib.Omega.{arith}
 use borrow.Author.Tests.{eq-eqb, ne_eqb, leb-true, le-leb}
 use lib.Dec.{eqb, leb}
-use lib.ListN.{length, set}
-use lib.Seq.{sets}
+use lib.ListN.{length, take}
+use Rattle.std.specs.Int.{bytes_low_first, leading_zeros, to_le_bytes}
+use Rattle.std.proofs.Common.{w64}
+use Rattle.std.proofs.Math.Pow.{pow_mono}
+use Rattle.std.proofs.Math.Nat.{div-div-eq-div-mul, pow-succ', mul_comm}
+use Rattle.std.proofs.lemmas.Nat.{pow_pos, pow-add, leading_top}
+use Rattle.std.proofs.lemmas.Bool.{cases_lt}
+use Rattle.std.specs.Int.Count.{leading_of_zero}
 use Rattle.isa.specs.Opcode.{meaning, gives_reason2}
 use Rattle.names.specs.Code.{pack}
 use Rattle.isa.proofs.Spelling.{mnemonic-short, mnemonic-plain, mnemonic-some}
@@ -19,21 +24,11 @@ use Rattle.text.specs.Code.{digits, key_text}
 use Rattle.names.proofs.Keyed.{left, right}
 use Rattle.grammar.proofs.Bools.{either}
 
--- ---- the loops over a key
+-- ---- the bytes of a key
 
 pub digits-end : (k x : ℕ) → x ≡ 0 → digits k x ≡ []
 digits-end zero x e = refl
 digits-end (suc k) x e = rw (eq-eqb x 0 e)
-
-pub digits_more : (k x : ℕ) → (k ≡ 0 → ⊥) → (x ≡ 0 → ⊥) → digits k x ≡ (x % 256) ∷ digits (k - 1) (x / 256)
-digits_more zero x nk nx = absurd (nk refl)
-digits_more (suc k) x nk nx =
-    let e : suc k - 1 ≡ k = omega arith in
-    rw (ne_eqb x 0 nx, e)
-
-pub put_step : (out : List ℕ) (i k x : ℕ) → (k ≡ 0 → ⊥) → (x ≡ 0 → ⊥)
-    → sets (set out i (x % 256)) (i + 1) (digits (k - 1) (x / 256)) ≡ sets out i (digits k x)
-put_step out i k x nk nx = rw (digits_more k x nk nx, add-one)
 
 go-length : (b : Bool) (y : ℕ) (ys : List ℕ) (k : ℕ) → length ys ≤ k → length (cond b [] (y ∷ ys)) ≤ suc k
 go-length true y ys k h = omega arith
@@ -46,6 +41,62 @@ digits-length (suc k) x = go-length (eqb x 0) (x % 256) (digits k (x / 256)) k (
 pub key-short : (x : ℕ) → length (key_text x) ≤ 8
 unfolding key_text
 key-short x = digits-length 8 x
+
+-- the highest bit that is set tells how many bytes there are
+above_none : (j x : ℕ) → 2 ^ j ≤ x → x ≡ 0 → ⊥
+above_none j x l e = omega (arith, pow_pos j, l, e)
+
+digits-some : (k j x : ℕ) → j < 8 * k → 2 ^ j ≤ x → x < 2 ^ suc j → length (digits k x) ≡ j / 8 + 1
+digits-some zero j x h l u = absurd (omega arith)
+digits-some (suc k) j x h l u = rw (ne_eqb x 0 (above_none j x l)) (⊎_elim low (high (λ i a b c. digits-some k i (x / 256) a b c)) (cases_lt j 8))
+  where
+    low : j < 8 → suc (length (digits k (x / 256))) ≡ j / 8 + 1
+    low b =
+        let m : 2 ^ suc j ≤ 2 ^ 8 = pow_mono {i = suc j} {j = 8} (omega arith) in
+        let z : x / 256 ≡ 0 = omega (arith, m, u) in
+        rw (digits-end k (x / 256) z) (omega arith)
+    high : ((i : ℕ) → i < 8 * k → 2 ^ i ≤ x / 256 → x / 256 < 2 ^ suc i → length (digits k (x / 256)) ≡ i / 8 + 1) → 8 ≤ j → suc (length (digits k (x / 256))) ≡ j / 8 + 1
+    high r b =
+        let i = j - 8 in
+        let e : j ≡ 8 + i = omega arith in
+        let p : 2 ^ j ≡ 256 * 2 ^ i = ap (λ (n : ℕ). 2 ^ n) e ∙ pow-add 2 8 i in
+        let s : suc j ≡ 8 + suc i = omega arith in
+        let q : 2 ^ suc j ≡ 256 * 2 ^ suc i = ap (λ (n : ℕ). 2 ^ n) s ∙ pow-add 2 8 (suc i) in
+        omega (arith, r i (omega arith) (omega (arith, p, l)) (omega (arith, q, u)))
+
+pub key-width : (x : ℕ) → x < 2 ^ 64 → 8 - leading_zeros w64 x / 8 ≡ length (key_text x)
+unfolding key_text
+key-width zero h = rw (leading_of_zero 64)
+key-width (suc x) h =
+    let t = leading_top 64 (suc x) (omega arith) h in
+    let d : length (digits 8 (suc x)) ≡ t.0 / 8 + 1 = digits-some 8 t.0 (suc x) (omega (arith, t.1)) t.2 t.3 in
+    rw d (omega (arith, t.1))
+
+-- a number's bytes, the lowest first, of which the key's are the front
+abbrev low-bytes : ℕ → ℕ → List ℕ
+low-bytes zero x = []
+low-bytes (suc k) x = (x % 256) ∷ low-bytes k (x / 256)
+
+low-bytes-front : (k x : ℕ) → take (length (digits k x)) (low-bytes k x) ≡ digits k x
+low-bytes-front zero x = refl
+low-bytes-front (suc k) x = go (low-bytes-front k (x / 256)) (eqb x 0)
+  where
+    go : take (length (digits k (x / 256))) (low-bytes k (x / 256)) ≡ digits k (x / 256) → (b : Bool)
+        → take (length (cond b [] ((x % 256) ∷ digits k (x / 256)))) (low-bytes (suc k) x) ≡ cond b [] ((x % 256) ∷ digits k (x / 256))
+    go h true = refl
+    go h false = ap (λ (t : List ℕ). (x % 256) ∷ t) h
+
+low-bytes-at : (i k x : ℕ) → bytes_low_first (suc i) k x ≡ low-bytes k (x / 256 ^ suc i)
+low-bytes-at i zero x = refl
+low-bytes-at i (suc k) x =
+    let d : x / 256 ^ suc i / 256 ≡ x / 256 ^ suc (suc i) = div-div-eq-div-mul x (256 ^ suc i) 256 ∙ ap (λ (n : ℕ). x / n) (mul_comm (256 ^ suc i) 256 ∙ sym (pow-succ' 256 (suc i))) in
+    rw (low-bytes-at (suc i) k x, d)
+
+pub key-bytes : (x : ℕ) → take (length (key_text x)) (to_le_bytes w64 x) ≡ key_text x
+unfolding key_text
+key-bytes x =
+    let e : to_le_bytes w64 x ≡ low-bytes 8 x = ap (λ (t : List ℕ). (x % 256) ∷ t) (low-bytes-at 0 7 x) in
+    rw e (low-bytes-front 8 x)
 
 -- ---- a key of bytes that are not 0 has those bytes
 

@@ -2,26 +2,25 @@
 use mathlib.Core.Path.{◌≡◌, refl}
 use mathlib.Core.Bool.{Bool, true, false}
 use mathlib.Core.List.{List}
-use Prim.Native.Nat.{ℕ}
+use Prim.Native.Nat.{ℕ, ◌≤◌}
+use Rattle.std.specs.Prelude.{Option, Some, None, IfSome}
 use Rattle.names.specs.Names.{reg_named, csr_named}
-use Rattle.names.specs.declared.register.FoundReg.{FoundReg}
-use Rattle.names.specs.declared.register.FoundCsr.{FoundCsr}
+use Rattle.names.specs.declared.register.Reg.{Reg}
+use Rattle.names.specs.declared.register.Csr.{Csr}
 use Rattle.names.proofs.Spelling.{reg-small, csr-small}
 use Rattle.text.specs.Assembling.{reg_number, csr_number, operand_of}
-use Rattle.text.specs.Code.{Small}
-use Rattle.text.specs.declared.assemble.Operand.{Operand}
 
-numbered : (is_csr : Bool) (w : List ℕ) → Small (operand_of is_csr w)
+numbered : (is_csr : Bool) (w : List ℕ) → IfSome (operand_of is_csr w) (λ n. n ≤ 15)
 numbered true w = go (csr_named w) refl
   where
-    go : (f : FoundCsr) → csr_named w ≡ f → Small (csr_number f)
-    go (FoundCsr.Is c) e = csr-small w c e
-    go FoundCsr.Unknown e = tt
+    go : (f : Option Csr) → csr_named w ≡ f → IfSome (csr_number f) (λ n. n ≤ 15)
+    go (Some c) e = csr-small w c e
+    go None e = tt
 numbered false w = go (reg_named w) refl
   where
-    go : (f : FoundReg) → reg_named w ≡ f → Small (reg_number f)
-    go (FoundReg.Is r) e = reg-small w r e
-    go FoundReg.Unknown e = tt
+    go : (f : Option Reg) → reg_named w ≡ f → IfSome (reg_number f) (λ n. n ≤ 15)
+    go (Some r) e = reg-small w r e
+    go None e = tt
 
-pub small : (is_csr : Bool) (w : List ℕ) {o : Operand} → o ≡ operand_of is_csr w → Small o
+pub small : (is_csr : Bool) (w : List ℕ) {o : Option ℕ} → o ≡ operand_of is_csr w → IfSome o (λ n. n ≤ 15)
 small is_csr w e = rw e (numbered is_csr w)

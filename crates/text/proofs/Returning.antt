@@ -13,12 +13,17 @@ use Rattle.isa.specs.Opcode.{meaning, gives_reason2}
 use Rattle.isa.proofs.Spelling.{mnemonic-plain, mnemonic-some, mnemonic-room, mnemonic-named}
 use Rattle.names.proofs.Spelling.{plain, all_plain}
 use Rattle.names.proofs.Spelling.{register-plain, register-some, register-short, register-named, csr-plain, csr-some, csr-short, csr-named}
-use Rattle.text.specs.Answer.{Answer, accepted, refused}
+use Rattle.text.specs.Answer.{Answer, accepted, refused, listed_as, assembled_as}
 use Rattle.grammar.specs.Line.{all, blank, wordy, empty}
 use Rattle.grammar.specs.Grammar.{Word, IsLine}
 use Rattle.text.specs.Listing.{first_is_csr, second_is_csr, operand_name, text_of, list_says, list_leaves}
-use Rattle.text.specs.Assembling.{operand_of, assemble_says}
-use Rattle.text.specs.declared.assemble.Operand.TheVariants.{Number}
+use Rattle.text.specs.Assembling.{operand_of, assemble_says, again_of, no_trip}
+use Rattle.std.specs.Prelude.{Some, Result, Ok, Err, IsErrAnd}
+use Rattle.text.specs.declared.list.NoText.{NoText}
+use Rattle.text.specs.declared.list.NoText.TheVariants.{Reason2, NoRoom}
+use Rattle.text.specs.declared.assemble.NoWord.{NoWord}
+use Rattle.text.specs.declared.assemble.NoWord.TheVariants.{BadLine, BadMnemonic, BadOperand}
+use Rattle.text.specs.declared.trip.NoTrip.{NoTrip}
 use Rattle.names.proofs.Keyed.{left, right}
 use Rattle.grammar.proofs.Bools.{clash}
 use Rattle.grammar.proofs.Reading.{complete}
@@ -80,7 +85,7 @@ made m d r wm wd wr = record {
   whole = rw (append-nil r);
 }
 
-operand-back : (is_csr : Bool) (n : ℕ) → n < 16 → operand_of is_csr (operand_name is_csr n) ≡ Number n
+operand-back : (is_csr : Bool) (n : ℕ) → n < 16 → operand_of is_csr (operand_name is_csr n) ≡ Some n
 operand-back true n h = rw (csr-named n h, le-leb n 15 (omega arith))
 operand-back false n h = rw (register-named n h, le-leb n 15 (omega arith))
 
@@ -170,3 +175,21 @@ pub returned : (w n : ℕ) (out : List ℕ) → w < 65536 → length out ≡ 16 
 returned w n out h l s =
     let k = sixteen w h in
     rw s.whole (round_trip w out h s.legal (omega arith)).1
+
+-- ---- the round trip: where one of the two calls refuses, and where neither does
+
+pub caught : (w : ℕ) (e : NoText) → w < 65536 → listed_as (Err e) ≡ list_says w 16 → Err (no_trip e) ≡ again_of w
+caught w Reason2 h l = rw (unlisted w 16 l)
+caught w NoRoom h l = absurd (omega (arith, (unroomy w 16 l).1, sixteen w h))
+
+pub never : {A : Type 0} (w : ℕ) (e : NoWord) → assembled_as (Err e) ≡ accepted w → A
+never w BadLine l = apart (refused 12) (accepted w) l (λ z. omega arith)
+never w BadMnemonic l = apart (refused 13) (accepted w) l (λ z. omega arith)
+never w BadOperand l = apart (refused 14) (accepted w) l (λ z. omega arith)
+
+pub same : (w v : ℕ) → gives_reason2 (w % 256) ≡ false → accepted v ≡ accepted w → Ok v ≡ again_of w
+same w v r e = rw r (ap (λ (x : Answer). Ok x.value) e)
+
+pub err_is : (r : Result ℕ NoTrip) (x : NoTrip) → IsErrAnd r (λ e. e ≡ x) → r ≡ Err x
+err_is (Ok v) x h = absurd h
+err_is (Err e) x h = ap Err h

@@ -1,77 +1,58 @@
 // The word of a line, as `mv r1, r2`.
-ghost use Rattle.std.specs.Prelude.{◌≡◌, eqb};
+ghost use Rattle.std.specs.Prelude.{◌≡◌, ◌+◌, ◌*◌, ◌≤◌, eqb};
 ghost use Rattle.isa.specs.Opcode.{opcode_named};
 ghost use Rattle.text.specs.Answer.{assembled_as};
-ghost use Rattle.text.specs.Assembling.{operand_of, with_mnemonic, with_operands, assemble_says};
-ghost use Rattle.text.specs.Code.{Small};
+ghost use Rattle.text.specs.Assembling.{operand_of, with_mnemonic, assemble_says};
 
 use grammar::line;
-use grammar::line::Split;
 use isa::opcode;
-use isa::opcode::FoundOpcode;
-use names::register::{Csr, FoundCsr, FoundReg, Reg};
+use names::register::{Csr, Reg};
 
-// The word; or refusal 12, 13 or 14.
+// Why a line has no word: refusal 12, 13 or 14.
 #[derive(Clone, Copy)]
-pub enum Assembled {
-    Word(u16),
+pub enum NoWord {
     BadLine,
     BadMnemonic,
     BadOperand,
 }
 
-#[derive(Clone, Copy)]
-pub enum Operand {
-    Number(u8),
-    NoOperand,
-}
-
 // An operand: a CSR where the opcode is the chosen one, else a register.
-fn find_operand(code: u8, chosen: u8, name: &[u8]) -> Operand
+fn find_operand(code: u8, chosen: u8, name: &[u8]) -> Option<u8>
     ensures { result ≡ operand_of (eqb code chosen) name.now }
 {
     if code == chosen {
-        return match Csr::from_name(name) {
-            FoundCsr::Is(c) => Operand::Number(c.number),
-            FoundCsr::Unknown => Operand::NoOperand,
-        };
-    }
-    match Reg::from_name(name) {
-        FoundReg::Is(c) => Operand::Number(c.number),
-        FoundReg::Unknown => Operand::NoOperand,
+        Csr::from_name(name).map(|c| c.number)
+    } else {
+        Reg::from_name(name).map(|r| r.number)
     }
 }
 
 // The word of an opcode and two operands.
-fn encode(code: u8, d: Operand, s: Operand) -> Assembled
-    requires { Small d × Small s }
-    ensures { assembled_as result ≡ with_operands code d s }
+fn encode(code: u8, d: u8, s: u8) -> u16
+    requires { (d ≤ 15) × (s ≤ 15) }
+    ensures { result ≡ code + 256 * (16 * d + s) }
 {
-    let Operand::Number(x) = d else {
-        return Assembled::BadOperand;
-    };
-    let Operand::Number(y) = s else {
-        return Assembled::BadOperand;
-    };
-    Assembled::Word(code as u16 + 256 * (16 * (x % 16) as u16 + (y % 16) as u16))
+    u16::from(code) + 256 * (16 * u16::from(d) + u16::from(s))
 }
 
 // The word of a mnemonic and two operands.
-fn assemble_words(m: &[u8], d: &[u8], s: &[u8]) -> Assembled
+fn assemble_words(m: &[u8], d: &[u8], s: &[u8]) -> Result<u16, NoWord>
     ensures { assembled_as result ≡ with_mnemonic (opcode_named m.now) d.now s.now }
 {
-    let FoundOpcode::Is(code) = opcode::named(m) else {
-        return Assembled::BadMnemonic;
-    };
-    encode(code, find_operand(code, 4, d), find_operand(code, 3, s))
+    let code = opcode::named(m).ok_or(NoWord::BadMnemonic)?;
+    let d = find_operand(code, 4, d).ok_or(NoWord::BadOperand)?;
+    let s = find_operand(code, 3, s).ok_or(NoWord::BadOperand)?;
+    Ok(encode(code, d, s))
 }
 
 // The word of a line, as `mv r1, r2`; 12, 13 or 14 where it is none.
-pub fn assemble(line: &[u8]) -> Assembled
+pub fn assemble(line: &[u8]) -> Result<u16, NoWord>
     ensures { assembled_as result ≡ assemble_says line.now }
 {
-    let Split::Words { a, b, c, d, e, f } = line::match_line(line) else {
-        return Assembled::BadLine;
-    };
-    assemble_words(&line[a..b], &line[c..d], &line[e..f])
+    let words = line::match_line(line).ok_or(NoWord::BadLine)?;
+    assemble_words(
+        words.mnemonic.of(line),
+        words.first.of(line),
+        words.second.of(line),
+    )
 }

@@ -10,10 +10,9 @@ ghost use Rattle.text.specs.Code.{key_text};
 use isa::opcode;
 use names::register::{Csr, Reg};
 
-// The text's length; or refusal 10 or 11.
+// Why there is no text: refusal 10 or 11.
 #[derive(Clone, Copy)]
-pub enum Listed {
-    Text(usize),
+pub enum NoText {
     Reason2,
     NoRoom,
 }
@@ -46,41 +45,22 @@ fn second_key(code: u8, n: u8) -> u64
     44 + 256 * (32 + 256 * operand(code == 3, n))
 }
 
+// How many bytes a key has, down to the last that is not 0.
+fn width(key: u64) -> usize
+    ensures { result ≡ length (key_text key) }
+{
+    8 - key.leading_zeros() as usize / 8
+}
+
 // The bytes of a key, first byte lowest, stored from `at` on; the place after them.
 fn put(out: &mut [u8], at: usize, key: u64) -> usize
     requires { at + length (key_text key) ≤ length out.old }
     ensures { (result ≡ at + length (key_text key)) × (out.new ≡ sets out.old at (key_text key)) }
 {
-    let mut x = key;
-    let mut i = at;
-    let mut k: usize = 8;
-    while k != 0 {
-        if x == 0 {
-            return i;
-        }
-        out[i] = (x % 256) as u8;
-        x = x / 256;
-        i += 1;
-        k -= 1;
-    }
-    i
-}
-
-fn width(key: u64) -> usize
-    ensures { result ≡ length (key_text key) }
-{
-    let mut x = key;
-    let mut n: usize = 0;
-    let mut k: usize = 8;
-    while k != 0 {
-        if x == 0 {
-            return n;
-        }
-        x = x / 256;
-        n += 1;
-        k -= 1;
-    }
-    n
+    let n = width(key);
+    let bytes = key.to_le_bytes();
+    out[at..at + n].copy_from_slice(&bytes[..n]);
+    at + n
 }
 
 // No text is longer than 16 bytes, so that with room for these nothing is counted.
@@ -88,30 +68,27 @@ fn is_short(room: usize, m: u64, d: u64, s: u64) -> bool
     requires { length (key_text m ++ key_text d ++ key_text s) ≤ 16 }
     ensures { result ≡ ltb room (length (key_text m) + length (key_text d) + length (key_text s)) }
 {
-    if 16 <= room {
-        return false;
-    }
-    room < width(m) + width(d) + width(s)
+    room < 16 && room < width(m) + width(d) + width(s)
 }
 
 // The bytes of three keys, one after the other, if there is room for all.
-fn put3(out: &mut [u8], m: u64, d: u64, s: u64) -> Listed
+fn put3(out: &mut [u8], m: u64, d: u64, s: u64) -> Result<usize, NoText>
     requires { length (key_text m ++ key_text d ++ key_text s) ≤ 16 }
     ensures result_value { listed_as result ≡ fit_says (key_text m ++ key_text d ++ key_text s) (length out.old) }
     ensures out_after { out.new ≡ fit_leaves (key_text m ++ key_text d ++ key_text s) out.old }
 {
     if is_short(out.len(), m, d, s) {
-        return Listed::NoRoom;
+        return Err(NoText::NoRoom);
     }
     let a = put(out, 0, m);
     let b = put(out, a, d);
     let c = put(out, b, s);
-    Listed::Text(c)
+    Ok(c)
 }
 
 // The same as `list`, by a table that is lent: making one costs more than a line. Another table's names could be longer than the room that is made for
 // them, so it asks for the one that tells the rules.
-pub fn list_in(table: &[u8; 256], word: u16, out: &mut [u8]) -> Listed
+pub fn list_in(table: &[u8; 256], word: u16, out: &mut [u8]) -> Result<usize, NoText>
     requires { TellsAll table.now }
     ensures result_value { listed_as result ≡ list_says word (length out.old) }
     ensures out_after { out.new ≡ list_leaves word out.old }
@@ -121,13 +98,13 @@ pub fn list_in(table: &[u8; 256], word: u16, out: &mut [u8]) -> Listed
     let second = (word / 256 % 16) as u8;
     let m = opcode::mnemonic(table, code);
     if m == 0 {
-        return Listed::Reason2;
+        return Err(NoText::Reason2);
     }
     put3(out, m, first_key(code, first), second_key(code, second))
 }
 
 // The text of a word at the front of the output, its length; 10 where the opcode gives reason 2, then 11.
-pub fn list(word: u16, out: &mut [u8]) -> Listed
+pub fn list(word: u16, out: &mut [u8]) -> Result<usize, NoText>
     ensures result_value { listed_as result ≡ list_says word (length out.old) }
     ensures out_after { out.new ≡ list_leaves word out.old }
 {

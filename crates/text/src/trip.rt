@@ -1,43 +1,43 @@
 // There and back: a word's text, assembled.
 ghost use Rattle.std.specs.Prelude.{◌≡◌};
-ghost use Rattle.text.specs.Assembling.{again_of, assemble_says};
-ghost use Rattle.text.specs.Code.{again_from};
+ghost use Rattle.text.specs.Assembling.{again_of, no_trip};
+ghost use Rattle.text.specs.declared.trip.NoTrip.TheVariants.{Other};
 
-use crate::assemble::Assembled;
-use crate::list::Listed;
+use crate::assemble::NoWord;
+use crate::list::NoText;
 use crate::{assemble, list};
 
-// What a word's listing assembles to: that word, unless its opcode gives reason 2. No word gives any other answer.
+// Why a word's text does not give the word: its opcode gives reason 2. No word gives `Other`.
 #[derive(Clone, Copy)]
-pub enum Again {
-    Same(u16),
+pub enum NoTrip {
     Unlisted,
     Other,
 }
 
-fn reassembled(line: &[u8]) -> Again
-    ensures { result ≡ again_from (assemble_says line.now) }
-{
-    match assemble::assemble(line) {
-        Assembled::Word(w) => Again::Same(w),
-        Assembled::BadLine => Again::Other,
-        Assembled::BadMnemonic => Again::Other,
-        Assembled::BadOperand => Again::Other,
+impl From<NoText> for NoTrip {
+    ghost from_gives = { λ why e. e ≡ no_trip why };
+
+    fn from(why: NoText) -> NoTrip {
+        match why {
+            NoText::Reason2 => NoTrip::Unlisted,
+            NoText::NoRoom => NoTrip::Other,
+        }
     }
 }
 
-pub fn round_trip(word: u16) -> Again
+impl From<NoWord> for NoTrip {
+    ghost from_gives = { λ why e. e ≡ Other };
+
+    fn from(_: NoWord) -> NoTrip {
+        NoTrip::Other
+    }
+}
+
+// What a word's listing assembles to: that word, unless its opcode gives reason 2.
+pub fn round_trip(word: u16) -> Result<u16, NoTrip>
     ensures { result ≡ again_of word }
 {
     let mut text = [0u8; 16];
-    match list::list(word, &mut text) {
-        Listed::Text(n) => {
-            if 16 < n {
-                return Again::Other;
-            }
-            reassembled(&text[0..n])
-        }
-        Listed::Reason2 => Again::Unlisted,
-        Listed::NoRoom => Again::Other,
-    }
+    let n = list::list(word, &mut text)?;
+    Ok(assemble::assemble(&text[..n])?)
 }

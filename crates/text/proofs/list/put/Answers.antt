@@ -1,45 +1,32 @@
-use mathlib.Core.Path.{◌≡◌, refl, ◌∙◌}
-use Prim.Native.Nat.{suc, ◌+◌, ◌-◌, ◌/◌}
-use native.Mathlib.Omega.{arith}
-use lib.ListN.{length, length-set}
-use Rattle.text.specs.Code.{digits, key_text}
-use Rattle.text.proofs.KeyTexts.{digits-end, digits_more, put_step}
+use Rattle.std.proofs.Common.{◌≡◌, ℕ, sym, ap, ◌∙◌, ◌-◌, ◌+◌, length, take, arith, append_assoc}
+use lib.ListN.{length-take, length-drop}
+use lib.Seq.{sets-eq, drop-drop}
+use Rattle.text.specs.Code.{key_text}
+use Rattle.text.proofs.KeyTexts.{key-short, key-bytes}
 use Rattle.text.proofs.list.put.Goals as goal
-use Rattle.text.proofs.list.put.Goals.{Else-x-eq0}
+use Rattle.text.proofs.list.put.Goals.{After-to_le_bytes-bytes}
 
--- where a byte is left, it is among those that there is room for
-more : (c : Else-x-eq0)
-    → let v = c.loop-k in
-    let a = c.args in
-    v.i + suc (length (digits (v.k - 1) (v.x / 256))) ≡ a.at + length (key_text a.key)
-more c =
-    let v = c.loop-k in
-    rw (digits_more v.k v.x c.loop-k-test.true c.if-x-eq0.false) at v.invariant.1
+-- what is copied
+front : (c : After-to_le_bytes-bytes) → take c.width-n.result c.to_le_bytes-bytes.result ≡ key_text c.args.key
+front c = rw (c.to_le_bytes-bytes.ensures, c.width-n.ensures) (key-bytes c.args.key)
 
-pub loop-k-init : goal.loop-k-init
-unfolding key_text
-loop-k-init c = (refl, refl, refl)
+pub slice_bounds-bytes-end : goal.slice_bounds-bytes-end
+slice_bounds-bytes-end c = omega (arith, key-short c.args.key, c.width-n.ensures, ap length c.to_le_bytes-bytes.ensures)
 
-pub returns-then-x-eq0 : goal.returns-then-x-eq0
-returns-then-x-eq0 c = let v = c.loop-k in
-    let e = digits-end v.k v.x c.if-x-eq0.true in
-    (omega (arith, rw e at v.invariant.1), rw e at v.invariant.0)
+pub slice_bounds-copy_from_slice-end-2 : goal.slice_bounds-copy_from_slice-end-2
+slice_bounds-copy_from_slice-end-2 c = c.width-n.ensures ∙ sym (ap length (front (goal.at.slice_bounds-copy_from_slice-end-2 c).After-to_le_bytes-bytes))
 
-pub loop-k-preserved : goal.loop-k-preserved
-loop-k-preserved c = let v = c.loop-k in
-    let nk = c.loop-k-test.true in
-    let nx = c.if-x-eq0.false in (
-      put_step v.out v.i v.k v.x nk nx ∙ v.invariant.0,
-      omega (arith, more (goal.at.loop-k-preserved c).Else-x-eq0),
-      simp length-set v.invariant.2,
-    )
+pub copy_from_slice-requires : goal.copy_from_slice-requires
+copy_from_slice-requires c =
+    let f = ap length (front (goal.at.copy_from_slice-requires c).After-to_le_bytes-bytes) in
+    omega (arith, f, c.width-n.ensures, c.requires, length-take {A = ℕ}, length-drop {A = ℕ})
 
 pub returns : goal.returns
-returns c = let v = c.loop-k in
-    (omega (arith, rw c.loop-k-test.false at v.invariant.1), rw c.loop-k-test.false at v.invariant.0)
-
-pub bounds-out-i : goal.bounds-out-i
-bounds-out-i c = omega (arith, c.requires, more (goal.at.bounds-out-i c).Else-x-eq0)
-
-pub overflow_add-i : goal.overflow_add-i
-overflow_add-i c = omega (arith, c.requires, c.well_formed, more (goal.at.overflow_add-i c).Else-x-eq0)
+returns c =
+    let t = key_text c.args.key in
+    let k : c.args.at + c.width-n.result - c.args.at ≡ length t = omega (arith, c.width-n.ensures) in
+    let f = front (goal.at.returns c).After-to_le_bytes-bytes in
+    (
+      omega (arith, c.width-n.ensures),
+      rw (c.copy_from_slice.ensures.after, f, k, drop-drop (length t) c.args.at c.args.out.now, sets-eq t c.args.out.now c.args.at c.requires, append_assoc),
+    )

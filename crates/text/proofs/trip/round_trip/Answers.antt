@@ -1,32 +1,35 @@
-use mathlib.Core.Path.{◌≡◌, refl, sym, ap, ◌∙◌}
-use Prim.Native.Nat.{◌-◌}
-use native.Mathlib.Omega.{arith}
-use lib.ListN.{replicate}
-use Rattle.text.specs.Answer.{listed_as}
+use Rattle.std.proofs.Common.{◌≡◌, ℕ, List, ap, refl, ◌∙◌, arith, take, replicate}
+use lib.ListN.{length-take}
+use Rattle.text.specs.Answer.{accepted}
 use Rattle.text.specs.Assembling.{assemble_says}
-use Rattle.text.specs.Code.{again_from}
-use Rattle.text.proofs.Returning.{seen, unlisted, unroomy, sixteen, returned}
+use Rattle.text.proofs.Returning.{seen, sixteen, returned, caught, never, same, err_is}
 use Rattle.text.proofs.trip.round_trip.Goals as goal
+use Rattle.text.proofs.trip.round_trip.Goals.{In_ok-n}
 
-pub returns-then-n-gt16 : goal.returns-then-n-gt16
-returns-then-n-gt16 c = let w = c.args.word in
-    let s = seen w 16 _ (ap listed_as (sym c.in-Text.is) ∙ c.list.ensures.result_value) in
-    let k = sixteen w (omega arith) in
-    let n = s.whole in
-    absurd (omega arith)
+-- the text that was listed gives the word
+back : (c : In_ok-n) → assemble_says (take c.in_ok-n.n c.list.new.out) ≡ accepted c.args.word
+back c =
+    let w = c.args.word in
+    ap (λ (l : List ℕ). assemble_says (take c.in_ok-n.n l)) c.in_ok-n.ensures.out_after
+    ∙ returned w c.in_ok-n.n (replicate 16 0) (omega arith) refl (seen w 16 _ c.in_ok-n.ensures.result_value)
 
-pub returns-else-n-gt16 : goal.returns-else-n-gt16
-returns-else-n-gt16 c = let w = c.args.word in
-    let s = seen w 16 _ (ap listed_as (sym c.in-Text.is) ∙ c.list.ensures.result_value) in
-    let t : c.in-Text.n - 0 ≡ c.in-Text.n = omega arith in
-    rw s.legal
-    (c.reassembled.ensures ∙ ap again_from (ap assemble_says (rw (t, c.list.ensures.out_after)) ∙ returned w _ (replicate 16 0) (omega arith) refl s))
+pub returns-in_err-n : goal.returns-in_err-n
+returns-in_err-n c = err_is _ _ c.from_residual.ensures.1 ∙ caught c.args.word c.in_err-n.field-0.0 (omega arith) c.in_err-n.ensures.result_value
 
-pub returns-in-Reason2 : goal.returns-in-Reason2
-returns-in-Reason2 c = rw (unlisted c.args.word 16 (ap listed_as (sym c.in-Reason2.is) ∙ c.list.ensures.result_value))
+pub slice_bounds-text-end : goal.slice_bounds-text-end
+slice_bounds-text-end c =
+    let s = seen c.args.word 16 _ c.in_ok-n.ensures.result_value in
+    omega (arith, s.whole, sixteen c.args.word (omega arith), c.list.auto.out)
 
-pub returns-in-NoRoom : goal.returns-in-NoRoom
-returns-in-NoRoom c = let w = c.args.word in
-    let k = sixteen w (omega arith) in
-    let r = unroomy w 16 (ap listed_as (sym c.in-NoRoom.is) ∙ c.list.ensures.result_value) in
-    absurd (omega (arith, r.1))
+pub slice_bounds-assemble-end : goal.slice_bounds-assemble-end
+slice_bounds-assemble-end c =
+    let s = seen c.args.word 16 _ c.in_ok-n.ensures.result_value in
+    omega (arith, s.whole, sixteen c.args.word (omega arith), c.list.auto.out, length-take {A = ℕ})
+
+pub returns-in_err-assemble : goal.returns-in_err-assemble
+returns-in_err-assemble c = never c.args.word c.in_err-assemble.field-0.0 (c.in_err-assemble.ensures ∙ back (goal.at.returns-in_err-assemble c).In_ok-n)
+
+pub returns : goal.returns
+returns c =
+    let s = seen c.args.word 16 _ c.in_ok-n.ensures.result_value in
+    same c.args.word _ s.legal (c.in_ok-assemble.ensures ∙ back (goal.at.returns c).In_ok-n)
