@@ -1,5 +1,5 @@
 // What the desk is started with: desk [--ram N] [--slots N] [--protect FIRST LAST] [IMAGE]
-ghost use Rattle.std.specs.Prelude.{◌≤◌, ◌<◌};
+ghost use Rattle.std.specs.Prelude.{◌≡◌, ◌+◌, ◌≤◌, ◌<◌, max, IfOk, IsNone};
 
 use crate::{values, version, words};
 use lexis::numbers;
@@ -69,7 +69,9 @@ pub fn number<F: Fn(&[u8]) -> Option<u16>>(rt: &impl Env, i: usize, read: F) -> 
 }
 
 // The place after an argument's; no system hands on a million of them.
-pub fn next(i: usize) -> usize {
+pub fn next(i: usize) -> usize
+    ensures { (i ≤ result) × (result ≤ i + 1) }
+{
     if i < 1000000 { i + 1 } else { i }
 }
 
@@ -113,6 +115,7 @@ fn within<F: Fn(&[u8]) -> Option<u16>>(
     what: &'static [u8],
 ) -> Result<u16, Bad>
     requires { F.IsAlwaysCallable read }
+    ensures { IfOk result (λ n. n ≤ most) }
 {
     match number(rt, i, read) {
         Some(n) if n <= most => Ok(n),
@@ -121,7 +124,9 @@ fn within<F: Fn(&[u8]) -> Option<u16>>(
 }
 
 impl Board {
-    pub fn new() -> Board {
+    pub fn new() -> Board
+        ensures { (result.ram ≡ 30000) × (result.words ≡ 32768) × IsNone result.stretch }
+    {
         Board {
             ram: 30000,
             words: 32768,
@@ -138,6 +143,8 @@ impl Board {
         read: F,
     ) -> Result<Board, Bad>
         requires { F.IsAlwaysCallable read }
+        ensures ram { IfOk result (λ b. b.ram ≤ max self.ram 65504) }
+        ensures words { IfOk result (λ b. b.words ≤ max self.words 32768) }
     {
         let at = next(i);
         let mut board = self;

@@ -1,8 +1,10 @@
 // The words of a line.
-ghost use Rattle.std.specs.Prelude.{◌+◌, ◌≤◌, ◌<◌, length, IfSome};
+ghost use Rattle.std.specs.Prelude.{◌+◌, ◌≤◌, ◌<◌, ◌≡◌, length, take, IfSome};
 
 // The first so many bytes; none where there are fewer.
-pub fn front<'a>(bytes: &'a [u8], n: usize) -> &'a [u8] {
+pub fn front<'a>(bytes: &'a [u8], n: usize) -> &'a [u8]
+    ensures { n ≤ length bytes.now → result.now ≡ take n bytes.now }
+{
     bytes.get(..n).unwrap_or(b"")
 }
 
