@@ -1,191 +1,159 @@
 // break and watch: entries set, deleted, listed. What is wrong is said in a line, and the list stays as it was.
 use crate::list;
-use crate::list::{Gone, Stops};
+use crate::list::{Gone, Kind, Stops};
+use console::values::Said;
 use console::{values, words};
 use entries::Entry;
 
 // A kind by its command's name.
-fn name(rt: &impl Print, kind: u16) {
-    if kind == list::WATCH {
-        report::text(rt, b"watch");
-        return;
+fn name(kind: Kind) -> &'static [u8] {
+    match kind {
+        Kind::Break => b"break",
+        Kind::Watch => b"watch",
     }
-    report::text(rt, b"break");
 }
 
-fn named(rt: &impl Print, kind: u16, address: u16) {
-    name(rt, kind);
+fn named(rt: &impl Print, kind: Kind, address: u16) {
+    report::text(rt, name(kind));
     report::space(rt);
-    report::hex(rt, address as u64, 4);
+    report::hex(rt, u64::from(address), 4);
 }
 
 // The end of a line: how many there are.
-fn tell_count(rt: &impl Print, s: Stops) {
+fn tell_count(rt: &impl Print, s: &Stops) {
     report::text(rt, b", ");
-    let p = s.points;
-    report::decimal(rt, p.count as u64);
+    report::decimal(rt, s.list().len() as u64);
     report::text(rt, b" of 64\n");
 }
 
-// An entry with its hits, where it is of a kind; how many were listed with it.
-fn tell_entry(rt: &impl Print, e: Entry, kind: u16, before: u16) -> u16 {
-    if e.kind != kind {
-        return before;
-    }
+// An entry with its hits.
+fn tell_entry(rt: &impl Print, kind: Kind, e: Entry) {
     named(rt, kind, e.address);
     report::text(rt, b", hits ");
-    report::decimal(rt, e.hits as u64);
+    report::decimal(rt, u64::from(e.hits));
     report::end(rt);
-    if before < 64 {
-        return before + 1;
-    }
-    before
 }
 
-fn tell_none(rt: &impl Print, kind: u16) {
+fn tell_none(rt: &impl Print, kind: Kind) {
     report::text(rt, b"no ");
-    name(rt, kind);
+    report::text(rt, name(kind));
     report::text(rt, b" is set\n");
 }
 
 // All of a kind, in the order in which they were set.
-fn listed(rt: &impl Print, s: Stops, kind: u16) {
-    let mut n: u16 = 0;
-    let mut i: usize = 0;
-    while i < 64 {
-        n = tell_entry(rt, list::entry(s, i), kind, n);
-        i += 1;
+fn listed(rt: &impl Print, s: &Stops, kind: Kind) {
+    let mut is_any = false;
+    for e in s.list() {
+        if e.kind == u16::from(kind) {
+            tell_entry(rt, kind, *e);
+            is_any = true;
+        }
     }
-    if n == 0 {
+    if !is_any {
         tell_none(rt, kind);
     }
 }
 
-fn is_there(s: Stops, kind: u16, address: u16) -> bool {
-    let e = list::first(s, list::met(kind, 1, address));
-    e.kind == kind
+fn is_there(s: &Stops, kind: Kind, address: u16) -> bool {
+    list::first(*s, list::met(u16::from(kind), 1, address)).is_some()
 }
 
 // An entry that is to be added.
-fn added(rt: &impl Print, s: Stops, kind: u16, address: u16) -> Stops {
-    let p = s.points;
+fn add(rt: &impl Print, s: &mut Stops, kind: Kind, address: u16) {
     named(rt, kind, address);
     if is_there(s, kind, address) {
         report::text(rt, b" is set already\n");
-        return s;
+        return;
     }
-    if 64 <= p.count {
+    if 64 <= s.count {
         report::text(rt, b" is not set: there are 64 breaks and watches\n");
-        return s;
+        return;
     }
-    let hits = 0;
-    let after = list::with(
-        s,
-        Entry {
-            address,
-            kind,
-            hits,
-        },
-    );
+    let e = Entry {
+        address,
+        kind: u16::from(kind),
+        hits: 0,
+    };
+    *s = list::with(*s, e);
     report::text(rt, b" set");
-    tell_count(rt, after);
-    after
+    tell_count(rt, s);
 }
 
-fn deleted(rt: &impl Print, s: Stops, kind: u16, address: u16) -> Stops {
+fn delete(rt: &impl Print, s: &mut Stops, kind: Kind, address: u16) {
     named(rt, kind, address);
     if !is_there(s, kind, address) {
         report::text(rt, b" is not set\n");
-        return s;
+        return;
     }
-    let g = Gone {
-        kind,
-        every: false,
-        address,
+    let gone = Gone {
+        kind: u16::from(kind),
+        address: Some(address),
     };
-    let after = list::without(s, g);
+    *s = list::without(*s, gone);
     report::text(rt, b" deleted");
-    tell_count(rt, after);
-    after
+    tell_count(rt, s);
 }
 
-fn deleted_all(rt: &impl Print, s: Stops, kind: u16) -> Stops {
-    let g = Gone {
-        kind,
-        every: true,
-        address: 0,
+fn delete_all(rt: &impl Print, s: &mut Stops, kind: Kind) {
+    let gone = Gone {
+        kind: u16::from(kind),
+        address: None,
     };
-    let after = list::without(s, g);
-    let p = s.points;
-    let q = after.points;
-    if p.count == q.count {
+    let after = list::without(*s, gone);
+    if after.count == s.count {
         tell_none(rt, kind);
-        return s;
+        return;
     }
+    *s = after;
     report::text(rt, b"each ");
-    name(rt, kind);
+    report::text(rt, name(kind));
     report::text(rt, b" deleted");
-    tell_count(rt, after);
-    after
+    tell_count(rt, s);
 }
 
 // The address that has to stand at the end of the line.
-fn set(rt: &impl Print, s: Stops, kind: u16, line: &[u8], at: usize) -> Stops {
-    let a = values::only(rt, line, at, 0);
-    if a.is_bad {
-        return s;
+fn set(rt: &impl Print, s: &mut Stops, kind: Kind, line: &[u8]) -> Result<(), Said> {
+    match values::only(rt, line)? {
+        Some(address) => add(rt, s, kind, address),
+        None => report::text(rt, b"an address is needed\n"),
     }
-    if a.is_given {
-        return added(rt, s, kind, a.value);
-    }
-    report::text(rt, b"an address is needed\n");
-    s
+    Ok(())
 }
 
 // After the minus sign: an address, or nothing.
-fn cleared(rt: &impl Print, s: Stops, kind: u16, line: &[u8], at: usize) -> Stops {
-    let a = values::only(rt, line, at, 0);
-    if a.is_bad {
-        return s;
+fn clear(rt: &impl Print, s: &mut Stops, kind: Kind, line: &[u8]) -> Result<(), Said> {
+    match values::only(rt, line)? {
+        Some(address) => delete(rt, s, kind, address),
+        None => delete_all(rt, s, kind),
     }
-    if a.is_given {
-        return deleted(rt, s, kind, a.value);
-    }
-    deleted_all(rt, s, kind)
-}
-
-fn told(rt: &impl Print, s: Stops, kind: u16) -> Stops {
-    listed(rt, s, kind);
-    s
+    Ok(())
 }
 
 // [-] [ADDR]
-fn asked(rt: &impl Print, s: Stops, kind: u16, line: &[u8], at: usize) -> Stops {
-    let p = words::next(line, at);
-    if p.from == p.to {
-        return told(rt, s, kind);
+fn ask(rt: &impl Print, s: &mut Stops, kind: Kind, line: &[u8]) -> Result<(), Said> {
+    match words::next(line) {
+        None => {
+            listed(rt, s, kind);
+            Ok(())
+        }
+        Some((b"-", rest)) => clear(rt, s, kind, rest),
+        Some(_) => set(rt, s, kind, line),
     }
-    if words::is_name(words::cut(line, p), b"-") {
-        return cleared(rt, s, kind, line, p.to);
-    }
-    set(rt, s, kind, line, at)
 }
 
 // break [-] [ADDR]
-pub fn set_break(rt: &impl Print, s: Stops, line: &[u8], at: usize) -> Stops {
-    asked(rt, s, list::BREAK, line, at)
+pub fn set_break(rt: &impl Print, s: &mut Stops, line: &[u8]) -> Result<(), Said> {
+    ask(rt, s, Kind::Break, line)
 }
 
 // watch [-] [ADDR], and MB50's debugger's `watch r ADDR` and `watch w ADDR`, of which the machine has the second.
-pub fn set_watch(rt: &impl Print, s: Stops, line: &[u8], at: usize) -> Stops {
-    let p = words::next(line, at);
-    let word = words::cut(line, p);
-    if words::is_name(word, b"r") {
-        report::text(rt, b"only stores are watched: watch ADDR\n");
-        return s;
+pub fn set_watch(rt: &impl Print, s: &mut Stops, line: &[u8]) -> Result<(), Said> {
+    match words::next(line) {
+        Some((b"r" | b"R", _)) => {
+            report::text(rt, b"only stores are watched: watch ADDR\n");
+            Ok(())
+        }
+        Some((b"w" | b"W", rest)) => set(rt, s, Kind::Watch, rest),
+        _ => ask(rt, s, Kind::Watch, line),
     }
-    if words::is_name(word, b"w") {
-        return set(rt, s, list::WATCH, line, p.to);
-    }
-    asked(rt, s, list::WATCH, line, at)
 }
