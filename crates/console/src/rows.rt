@@ -45,6 +45,14 @@ impl<'a> Row<'a> {
         self.put_all(&digits[..k]);
     }
 
+    pub fn put_number(&mut self, n: u64)
+        ensures { length self.new.room.now ≡ length self.old.room.now }
+    {
+        let mut digits = [0u8; 20];
+        let k = io::decimal(n, &mut digits);
+        self.put_all(&digits[..k]);
+    }
+
     // With blanks in front, as many as make the width.
     pub fn put_decimal(&mut self, n: u16, width: usize)
         ensures { length self.new.room.now ≡ length self.old.room.now }
@@ -69,6 +77,14 @@ impl<'a> Row<'a> {
         ensures { self.now.filled ≤ length self.now.room.now → result.now ≡ take self.now.filled self.now.room.now }
     {
         words::front(self.room, self.filled)
+    }
+
+    // The same, lent for as long as the room is.
+    pub fn finished(self) -> &'a [u8]
+        ensures { self.entry.filled ≤ length self.entry.room.now → result.now ≡ take self.entry.filled self.entry.room.now }
+    {
+        let room = self.room;
+        words::front(room, self.filled)
     }
 
     pub fn write(&self, rt: &impl Print) {
