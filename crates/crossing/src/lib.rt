@@ -25,7 +25,7 @@ pub struct Crossing {
     pub met: Met,
 }
 
-// The number of a run's cause.
+// The number of a run's cause (no `From`: neither type is of this crate).
 pub fn cause(ending: Ending) -> u8
     ensures { result ≡ ending_number ending }
 {

@@ -1,3 +1,3 @@
-pub mod Places
 pub mod Listed
+pub mod Places
 pub mod Raising

@@ -1,14 +1,15 @@
--- Lists of entries: what is met, by the place of the first; what the points of a list tell of it.
-use Prim.Native.Nat.{ℕ, zero, suc, ◌+◌, ◌<◌, ◌≤◌}
+-- Lists of entries: what is met, by the place of the first; what a list by value tells of it.
+use Prim.Native.Nat.{ℕ, suc, ◌+◌, ◌<◌, ◌≤◌}
 use mathlib.Core.Path.{◌≡◌, refl, sym, ap, ◌∙◌}
 use mathlib.Core.Bool.{Bool, true, false, cond, ◌&&◌, ◌||◌}
-use mathlib.Core.List.{List, [], ◌∷◌, ◌++◌, map, append-nil, append_assoc}
-use native.Mathlib.Nat.{le_of_suc-le-suc, not-suc-le-zero}
+use mathlib.Core.List.{List, [], ◌∷◌, ◌++◌, map}
 use native.Mathlib.Omega.{arith}
 use borrow.Author.Tests.{lt-ltb, le-ltb, ltb-true, ltb-false}
 use lib.Dec.{eqb, ltb}
-use lib.ListN.{length, set, take, replicate, length-set, length-map}
-use Rattle.entries.specs.Entries.{met_at, meets, any_of, counted, marked, place_of}
+use lib.ListN.{length, set, take, drop, replicate, length-map}
+use Rattle.std.proofs.lemmas.List.{take_at}
+use Rattle.std.proofs.lemmas.List.Edits.{sets, sets-eq}
+use Rattle.entries.specs.Entries.{entry, met_at, meets, any_of, counted, marked, place_of}
 use Rattle.entries.specs.Code.{bare, points, added, added_all, points_of}
 use Rattle.entries.specs.declared.Entry.{Entry}
 use Rattle.entries.specs.declared.Points.{Points}
@@ -48,79 +49,47 @@ unfolding marked counted
 never-marked k a [] = refl
 never-marked k a (e ∷ l) = rw (never k a e) (ap (λ (t : List Entry). e ∷ t) (never-marked k a l))
 
--- ---- hits do not steer: a list is met as its addresses and kinds are
-abbrev addresses : List Entry → List ℕ
-addresses l = map (λ (e : Entry). e.address) l
-
-abbrev kinds : List Entry → List ℕ
-kinds l = map (λ (e : Entry). e.kind) l
-
-pub bare-place : (x : _) (l : List Entry) → place_of (meets x) (bare (addresses l) (kinds l)) ≡ place_of (meets x) l
-unfolding place_of bare
+-- ---- hits do not steer: a list is met as its entries are without them
+pub bare-place : (x : _) (l : List Entry) → place_of (meets x) (map bare l) ≡ place_of (meets x) l
+unfolding place_of
 bare-place x [] = refl
 bare-place x (e ∷ l) = ap (λ (n : ℕ). cond (meets x e) 0 (suc n)) (bare-place x l)
 
-pub bare-some : (x : _) (l : List Entry) → any_of (meets x) (bare (addresses l) (kinds l)) ≡ any_of (meets x) l
-unfolding any_of bare
+pub bare-some : (x : _) (l : List Entry) → any_of (meets x) (map bare l) ≡ any_of (meets x) l
+unfolding any_of
 bare-some x [] = refl
 bare-some x (e ∷ l) = ap (λ (t : Bool). meets x e || t) (bare-some x l)
 
--- ---- the points of a list
--- values put from the n-th place on
-puts : List ℕ → ℕ → List ℕ → List ℕ
-puts a n [] = a
-puts a n (x ∷ xs) = puts (set a n x) (n + 1) xs
+pub bare-kinds : (l : List Entry) → map (λ (e : Entry). e.kind) (map bare l) ≡ map (λ (e : Entry). e.kind) l
+bare-kinds [] = refl
+bare-kinds (e ∷ l) = ap (λ (t : List ℕ). e.kind ∷ t) (bare-kinds l)
 
-take-set : (a : List ℕ) (n x : ℕ) → n < length a → take (suc n) (set a n x) ≡ take n a ++ (x ∷ [])
-take-set [] n x h = absurd (not-suc-le-zero h)
-take-set (y ∷ a) zero x h = refl
-take-set (y ∷ a) (suc n) x h = ap (λ (t : List ℕ). y ∷ t) (take-set a n x (le_of_suc-le-suc h))
-
-take-puts : (a : List ℕ) (n : ℕ) (xs : List ℕ) → n + length xs ≤ length a → take (n + length xs) (puts a n xs) ≡ take n a ++ xs
-unfolding puts
-take-puts a n [] h = let e : n + 0 ≡ n = omega arith in rw e (sym (append-nil (take n a)))
-take-puts a n (x ∷ xs) h =
-    let e : n + length (x ∷ xs) ≡ n + 1 + length xs = omega arith in
-    let f : n + 1 ≡ suc n = omega arith in
-    let g : n + 1 + length xs ≤ length (set a n x) = omega (arith, h, length-set a n x) in
-    let p : take (n + 1 + length xs) (puts (set a n x) (n + 1) xs) ≡ take (n + 1) (set a n x) ++ xs = take-puts (set a n x) (n + 1) xs g in
-    rw e (p ∙ rw (f, take-set a n x (omega (arith, h))) (append_assoc (take n a) (x ∷ []) xs))
-
-added-all : (l : List Entry) (n : ℕ) (a k : List ℕ) → n + length l ≤ 64
-    → added_all (points n a k) l ≡ points (n + length l) (puts a n (addresses l)) (puts k n (kinds l))
-unfolding added_all added puts
-added-all [] n a k h = let e : n + 0 ≡ n = omega arith in rw e
-added-all (x ∷ l) n a k h =
+-- ---- the points of a list: its entries put from the n-th place on
+added-all : (l : List Entry) (n : ℕ) (a : List Entry) → n + length l ≤ 64 → added_all (points n a) l ≡ points (n + length l) (sets a n (map bare l))
+unfolding added_all added
+added-all [] n a h = let e : n + 0 ≡ n = omega arith in rw e
+added-all (x ∷ l) n a h =
     let e : n + length (x ∷ l) ≡ n + 1 + length l = omega arith in
-    rw (lt-ltb n 64 (omega (arith, h)), e) (added-all l (n + 1) (set a n x.address) (set k n x.kind) (omega (arith, h)))
+    let s : suc n ≡ n + 1 = omega arith in
+    rw (lt-ltb n 64 (omega (arith, h)), e)
+    (added-all l (n + 1) (set a n (bare x)) (omega (arith, h)) ∙ ap (λ (k : ℕ). points (n + 1 + length l) (sets (set a n (bare x)) k (map bare l))) (sym s))
 
--- of at most 64 entries: how many, their addresses, their kinds
+-- of at most 64 entries: how many, and the entries without hits
 pub record Points-of (l : List Entry) : Type 0 where
   pub count : (points_of l).count ≡ length l
-  pub addresses : take (length l) (points_of l).addresses ≡ map (λ (e : Entry). e.address) l
-  pub kinds : take (length l) (points_of l).kinds ≡ map (λ (e : Entry). e.kind) l
+  pub entries : take (length l) (points_of l).entries ≡ map bare l
 
-abbrev zeros : List ℕ
-zeros = replicate 64 0
-
-abbrev column : List ℕ → List ℕ
-column xs = puts zeros 0 xs
-
-column-takes : (n : ℕ) (xs : List ℕ) → length xs ≡ n → n ≤ 64 → take n (column xs) ≡ xs
-column-takes n xs e h =
-    let z : 0 + length xs ≡ n = omega (arith, e) in
-    let g : 0 + length xs ≤ length zeros = omega (arith, e, h) in
-    rw z at (take-puts zeros 0 xs g)
+abbrev blank : List Entry
+blank = replicate 64 (entry 0 0 0)
 
 pub gathered : (l : List Entry) → length l ≤ 64 → Points-of l
 gathered l h =
-    let e : points_of l ≡ points (0 + length l) (column (addresses l)) (column (kinds l)) =
-    added-all l 0 zeros zeros (omega (arith, h))
-    in
+    let e : points_of l ≡ points (0 + length l) (sets blank 0 (map bare l)) = added-all l 0 blank (omega (arith, h)) in
+    let n = length-map l bare in
+    let s : sets blank 0 (map bare l) ≡ take 0 blank ++ map bare l ++ drop (0 + length (map bare l)) blank = sets-eq (map bare l) blank 0 (omega (arith, h, n)) in
     record {
       count = ap (λ (p : Points). p.count) e ∙ omega arith;
-      addresses = ap (λ (p : Points). take (length l) p.addresses) e ∙ column-takes (length l) (addresses l) (length-map l (λ (x : Entry). x.address)) h;
-      kinds = ap (λ (p : Points). take (length l) p.kinds) e ∙ column-takes (length l) (kinds l) (length-map l (λ (x : Entry). x.kind)) h;
+      entries = ap (λ (p : Points). take (length l) p.entries) e ∙ ap (take (length l)) s ∙ take_at (map bare l) (drop (0 + length (map bare l)) blank) (length l) n;
     }
 
 -- of more than 64 entries only that
@@ -133,8 +102,8 @@ overfull (x ∷ l) p b h = go (overfull l) (ltb p.count 64) refl
         → (added_all (added p x) l).count ≡ 65
     go r true e =
         let g = ltb-true p.count 64 e in
-        rw e (r (points (p.count + 1) (set p.addresses p.count x.address) (set p.kinds p.count x.kind)) (omega (arith, g)) (omega (arith, h)))
-    go r false e = rw e (r (points 65 p.addresses p.kinds) (omega arith) (omega arith))
+        rw e (r (points (p.count + 1) (set p.entries p.count (bare x))) (omega (arith, g)) (omega (arith, h)))
+    go r false e = rw e (r (points 65 p.entries) (omega arith) (omega arith))
 
 pub too_long : (l : List Entry) → 64 < length l → (points_of l).count ≡ 65
-too_long l h = overfull l (points 0 zeros zeros) (omega arith) (omega (arith, h))
+too_long l h = overfull l (points 0 blank) (omega arith) (omega (arith, h))

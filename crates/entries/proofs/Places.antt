@@ -1,39 +1,36 @@
--- A list of entries met one by one: the first that is met, and whether all kinds are known.
-use Prim.Native.Nat.{ℕ, zero, suc, ◌+◌, ◌<◌, ◌≤◌}
-use mathlib.Core.Path.{◌≡◌, refl, ap}
-use mathlib.Core.Bool.{Bool, true, false}
-use mathlib.Core.List.{List, [], ◌∷◌}
-use native.Mathlib.Nat.{le_of_suc-le-suc, not-suc-le-zero}
-use native.Mathlib.Numerals.{add-one}
+-- The first entry of a list that is met, as the library's search finds it.
+use Prim.Native.Nat.{ℕ, suc, ◌+◌}
+use mathlib.Core.Path.{◌≡◌, refl, sym, ap, ◌∙◌}
+use mathlib.Core.Bool.{Bool, cond, ◌&&◌, ◌||◌}
+use mathlib.Core.List.{List, [], ◌∷◌, map}
 use native.Mathlib.Omega.{arith}
-use lib.ListN.{length, get_or, drop, drop_of_length-le}
-use lib.Seq.{drop-cons}
-use Rattle.entries.specs.Entries.{entry, place_of}
-use Rattle.entries.specs.Code.{bare}
+use lib.Dec.{eqb, ltb}
+use lib.ListN.{length}
+use Rattle.std.specs.Prelude.{Option, Some, None}
+use Rattle.std.specs.List.{list_all, position_or_len}
+use Rattle.std.proofs.lemmas.List.Recursion.{is_position_or_len}
+use Rattle.entries.specs.Entries.{place_of, found, all_known}
 use Rattle.entries.specs.declared.Entry.{Entry}
+use Rattle.entries.proofs.Listed.{some-place}
 
-module _ (f : Entry → Bool) (l : List Entry) (i : ℕ) where
-  pub place-met : i < length l → f (get_or l i (entry 0 0 0)) ≡ true → place_of f (drop i l) ≡ 0
+module _ (f : Entry → Bool) (l : List Entry) where
+  place-is : place_of f l ≡ position_or_len f l
   unfolding place_of
-  place-met h e = rw (drop-cons l i (entry 0 0 0) h, e)
+  place-is = is_position_or_len (place_of f) f refl (λ x xs. let e : suc (place_of f xs) ≡ 1 + place_of f xs = omega arith in ap (cond (f x) 0) e) l
 
-  pub place-on : i < length l → f (get_or l i (entry 0 0 0)) ≡ false → place_of f (drop i l) ≡ suc (place_of f (drop (i + 1) l))
-  unfolding place_of
-  place-on h e = rw (drop-cons l i (entry 0 0 0) h, e, add-one)
+  pub position-found : (r : Option ℕ) → r ≡ cond (ltb (position_or_len f l) (length l)) (Some (position_or_len f l)) None → r ≡ found f l
+  position-found r e =
+      e ∙ ap (λ (n : ℕ). cond (ltb n (length l)) (Some n) None) (sym place-is)
+      ∙ ap (λ (t : Bool). cond t (Some (place_of f l)) None) (sym (some-place f l))
 
-  pub place_end : length l ≤ i → place_of f (drop i l) ≡ 0
-  unfolding place_of
-  place_end h = rw (drop_of_length-le l h)
+-- all kinds known, asked of the entries
+abbrev known : ℕ → Bool
+known k = eqb k 1 || eqb k 2
 
-pub bare-length : (a k : List ℕ) → length k ≡ length a → length (bare a k) ≡ length a
-unfolding bare
-bare-length [] k e = refl
-bare-length (x ∷ a) [] e = absurd (omega arith)
-bare-length (x ∷ a) (y ∷ k) e = ap suc (bare-length a k (omega arith))
+kinds-known : (l : List Entry) → list_all (λ (e : Entry). known e.kind) l ≡ list_all known (map (λ (e : Entry). e.kind) l)
+kinds-known [] = refl
+kinds-known (e ∷ l) = ap (λ (t : Bool). known e.kind && t) (kinds-known l)
 
-pub bare-at : (a k : List ℕ) (i : ℕ) → length k ≡ length a → i < length a → get_or (bare a k) i (entry 0 0 0) ≡ entry (get_or a i 0) (get_or k i 0) 0
-unfolding bare
-bare-at [] k i e h = absurd (not-suc-le-zero h)
-bare-at (x ∷ a) [] i e h = absurd (omega arith)
-bare-at (x ∷ a) (y ∷ k) zero e h = refl
-bare-at (x ∷ a) (y ∷ k) (suc i) e h = bare-at a k i (omega arith) (le_of_suc-le-suc h)
+pub all-kinds : (l : List Entry) (r : Bool) → r ≡ list_all (λ (e : Entry). known e.kind) l → r ≡ all_known (map (λ (e : Entry). e.kind) l)
+unfolding all_known
+all-kinds l r e = e ∙ kinds-known l

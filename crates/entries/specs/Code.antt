@@ -1,28 +1,26 @@
--- How the code has a list without a reference to a struct: its addresses and kinds, of the first 64 entries.
+-- How the code has a list by value: its first 64 entries without their hits, and how many there are.
 use Rattle.std.specs.Prelude.{ℕ, ◌+◌, cond, List, [], ◌∷◌, ltb, replicate, set, fold}
 use Rattle.entries.specs.Entries.{entry, counted}
 use Rattle.entries.specs.declared.Entry.{Entry}
 use Rattle.entries.specs.declared.Met.{Met}
 use Rattle.entries.specs.declared.Points.{Points}
 
--- entries without hits, from their addresses and kinds
-unfoldable pub bare : List ℕ → List ℕ → List Entry
-bare [] ks = []
-bare (a ∷ r) [] = []
-bare (a ∷ r) (k ∷ ks) = entry a k 0 ∷ bare r ks
+-- an entry without its hits
+abbrev pub bare : Entry → Entry
+bare e = entry e.address e.kind 0
 
-abbrev pub points : ℕ → List ℕ → List ℕ → Points
-points n a k = record { count = n; addresses = a; kinds = k }
+abbrev pub points : ℕ → List Entry → Points
+points n l = record { count = n; entries = l }
 
 abbrev pub no_points : Points
-no_points = points 0 (replicate 64 0) (replicate 64 0)
+no_points = points 0 (replicate 64 (entry 0 0 0))
 
 -- one entry more; after 64 only the count tells that there are too many
 unfoldable pub added : Points → Entry → Points
 added p e =
     cond (ltb p.count 64)
-    (points (p.count + 1) (set p.addresses p.count e.address) (set p.kinds p.count e.kind))
-    (points 65 p.addresses p.kinds)
+    (points (p.count + 1) (set p.entries p.count (bare e)))
+    (points 65 p.entries)
 
 unfoldable pub added_all : Points → List Entry → Points
 added_all p l = fold added p l

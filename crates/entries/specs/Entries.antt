@@ -1,5 +1,5 @@
 -- Q-9's list: "each an address, a kind (1 break, 2 watch) and a hit count". Which entries a stop meets, how they are counted, and which is named.
-use Rattle.std.specs.Prelude.{ℕ, suc, ◌+◌, Bool, false, cond, ◌&&◌, ◌||◌, List, [], ◌∷◌, map, eqb, ltb}
+use Rattle.std.specs.Prelude.{ℕ, suc, ◌+◌, Bool, false, cond, ◌&&◌, ◌||◌, List, [], ◌∷◌, map, eqb, ltb, Option, Some, None}
 use Rattle.std.specs.List.{list_all}
 use Rattle.word.specs.Word.{above}
 use Rattle.entries.specs.declared.Entry.{Entry}
@@ -39,6 +39,10 @@ marked x l = map (counted x) l
 unfoldable pub place_of : (Entry → Bool) → List Entry → ℕ
 place_of f [] = 0
 place_of f (e ∷ l) = cond (f e) 0 (suc (place_of f l))
+
+-- that place, where there is one
+abbrev pub found : (Entry → Bool) → List Entry → Option ℕ
+found f l = cond (any_of f l) (Some (place_of f l)) None
 
 -- 41: "unknown kind"
 unfoldable pub all_known : List ℕ → Bool

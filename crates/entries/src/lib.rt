@@ -1,11 +1,11 @@
 // The list of breaks and watches: an entry, what a stop meets, the first entry met, and the hits marked in a lent list.
 #![tactic(auto)]
 
-ghost use Rattle.std.specs.Prelude.{◌≡◌, length};
-ghost use Rattle.entries.specs.Entries.{entry, meets as meets_it, counted as counted_by, marked, place_of, all_known};
-ghost use Rattle.entries.specs.Code.{bare, no_points, added, points_of, raised_all};
+ghost use Rattle.std.specs.Prelude.{◌≡◌, map};
+ghost use Rattle.entries.specs.Entries.{entry, meets as meets_it, counted as counted_by, marked, found, all_known};
+ghost use Rattle.entries.specs.Code.{no_points, added, points_of, raised_all};
 
-// As the C boundary has it: three words of 16 bits.
+// As the C boundary has it: three words of 16 bits, the kind a number (1 break, 2 watch), since C may lend any.
 #[repr(C)]
 #[derive(Clone, Copy)]
 pub struct Entry {
@@ -14,7 +14,7 @@ pub struct Entry {
     pub hits: u16,
 }
 
-// What a stop meets: the entries of a kind at one of the bytes from an address on. None where no byte is counted.
+// What a stop meets: the entries of a kind (a number, as an entry's) at one of the bytes from an address on. None where no byte is counted.
 #[derive(Clone, Copy)]
 pub struct Met {
     pub kind: u16,
@@ -22,12 +22,12 @@ pub struct Met {
     pub first: u16,
 }
 
-// Addresses and kinds of a list, for code that holds no reference to a struct. A list that is too long has the count 65.
+// A list by value, without its hits, which steer no run: at most 64 entries, and how many there are (no heap: so an array and a count). A list that is too long
+// has the count 65.
 #[derive(Clone, Copy)]
 pub struct Points {
     pub count: usize,
-    pub addresses: [u16; 64],
-    pub kinds: [u16; 64],
+    pub entries: [Entry; 64],
 }
 
 // Is an entry of this address and kind among those that a stop meets?
@@ -55,33 +55,31 @@ fn counted(e: Entry, x: Met) -> Entry
     e
 }
 
-// The place of the first entry that is met, or the list's length.
-pub fn first(addresses: &[u16], kinds: &[u16], x: Met) -> usize
-    requires { length kinds.now ≡ length addresses.now }
-    ensures { result ≡ place_of (meets_it x) (bare addresses.now kinds.now) }
+// The place of the first entry that is met.
+pub fn first(list: &[Entry], x: Met) -> Option<usize>
+    ensures { result ≡ found (meets_it x) list.now }
 {
-    for (i, &address) in addresses.iter().enumerate() {
-        if meets(address, kinds[i], x) {
-            return i;
-        }
-    }
-    addresses.len()
+    list.iter().position(|e| meets(e.address, e.kind, x))
 }
 
 // Refusal 41's own question.
-pub fn known(kinds: &[u16]) -> bool
-    ensures { result ≡ all_known kinds.now }
+pub fn known(list: &[Entry]) -> bool
+    ensures { result ≡ all_known (map (λ e. e.kind) list.now) }
 {
-    kinds.iter().all(|&kind| (kind == 1) | (kind == 2))
+    list.iter().all(|e| (e.kind == 1) | (e.kind == 2))
 }
 
 pub fn none() -> Points
     ensures { result ≡ no_points }
 {
+    let nothing = Entry {
+        address: 0,
+        kind: 0,
+        hits: 0,
+    };
     Points {
         count: 0,
-        addresses: [0u16; 64],
-        kinds: [0u16; 64],
+        entries: [nothing; 64],
     }
 }
 
@@ -89,22 +87,15 @@ pub fn add(p: Points, e: Entry) -> Points
     ensures { result ≡ added p e }
 {
     let n = p.count;
-    let mut addresses = p.addresses;
-    let mut kinds = p.kinds;
+    let mut entries = p.entries;
     if n < 64 {
-        addresses[n] = e.address;
-        kinds[n] = e.kind;
+        entries[n] = Entry { hits: 0, ..e };
         return Points {
             count: n + 1,
-            addresses,
-            kinds,
+            entries,
         };
     }
-    Points {
-        count: 65,
-        addresses,
-        kinds,
-    }
+    Points { count: 65, entries }
 }
 
 // The hits of a list that is kept in columns, marked as `mark` marks a lent one.
@@ -124,12 +115,12 @@ pub fn raise(addresses: [u16; 64], kinds: [u16; 64], hits: [u16; 64], x: Met) ->
     after
 }
 
-// Addresses and kinds of a lent list, which stays as it is.
-pub fn gather(list: &mut [Entry]) -> Points
-    ensures { (result ≡ points_of list.old) × (list.new ≡ list.old) }
+// A lent list by value.
+pub fn gather(list: &[Entry]) -> Points
+    ensures { result ≡ points_of list.now }
 {
     let mut p = none();
-    for e in list.iter() {
+    for e in list {
         p = add(p, *e);
     }
     p

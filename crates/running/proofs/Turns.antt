@@ -14,7 +14,6 @@ use Rattle.calls.specs.Calls.{W, cause_is, journal_of, went, plain_of, world_of}
 use Rattle.calls.specs.declared.state.Machine.{Machine as MachineT}
 use Rattle.calls.proofs.Giving.{step-goes}
 use Rattle.calls.proofs.Answering.{given}
-use Rattle.entries.specs.Code.{bare}
 use Rattle.watching.specs.Watched.{Stop, run_cause, goes, as_ran}
 use Rattle.watching.specs.Code.{ended_as}
 use Rattle.watching.specs.declared.Ended.{Ended}
@@ -26,9 +25,8 @@ module _ (p : Stretch) where
   abbrev runs : ℕ → W → Answer Cpu Ring
   runs n w = ran machine (journal_of p) n w
 
-  -- a run by no addresses and no kinds is the plain run
-  pub unwatched : (n : ℕ) (w : W) (s : Stop) → goes n true (bare [] []) w ≡ s → runs n w ≡ as_ran s
-  unfolding bare
+  -- a run by an empty list is the plain run
+  pub unwatched : (n : ℕ) (w : W) (s : Stop) → goes n true [] w ≡ s → runs n w ≡ as_ran s
   unwatched n w s e = sym (goes-empty p n true w) ∙ ap as_ran e
 
   -- a run stops for one of the code's two causes

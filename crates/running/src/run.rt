@@ -55,20 +55,7 @@ fn advance(
         ≡ as_ran (ended_as result regs.new csrs.new ram.new journal.new) }
 {
     let table = opcode::table();
-    let no_address = [0u16; 1];
-    let no_kind = [0u16; 1];
-    watching::advance(
-        &table,
-        regs,
-        csrs,
-        board,
-        place,
-        ram,
-        journal,
-        &no_address[0..0],
-        &no_kind[0..0],
-        steps,
-    )
+    watching::advance(&table, regs, csrs, board, place, ram, journal, &[], steps)
 }
 
 pub fn machine_of(regs: [u16; 16], csrs: [u16; 6], board: Board, p: Place) -> Machine

@@ -10,25 +10,24 @@ use lib.ListN.{length, take}
 use Rattle.bus.specs.declared.state.Cpu.{Cpu}
 use Rattle.history.specs.Trace.{Effect, Next, refuses, gives}
 use Rattle.calls.specs.Inputs.{step, next_of}
-use Rattle.calls.specs.Calls.{W, check_of, went, world_of}
+use Rattle.calls.specs.Calls.{W, check_of, number_of as number_of_check, went, world_of}
 use Rattle.calls.specs.declared.state.Machine.{Machine as MachineT}
+use Rattle.calls.specs.declared.state.Refusal.{Refusal as CheckT}
 use Rattle.entries.specs.Entries.{meets, marked, place_of, all_known}
 use Rattle.entries.specs.Code.{bare, points_of}
 use Rattle.entries.specs.declared.Entry.{Entry}
 use Rattle.entries.specs.declared.Points.{Points}
-use Rattle.entries.proofs.Listed.{bare-some, bare-place, never-marked, gathered, too_long}
+use Rattle.entries.proofs.Listed.{bare-some, bare-place, bare-kinds, never-marked, gathered, too_long}
 use Rattle.watching.specs.Watched.{Stop, reached, stored, watched, placed, turn, goes}
 use Rattle.watching.specs.Code.{Names, stop_of}
 use Rattle.watching.specs.declared.Told.{Told}
 use Rattle.watched.specs.Answer.{told, refused, list_check, or_else, unless_refused, watched_of}
-use Rattle.watched.specs.Code.{answered, refuse, stopped_as, answer_as}
+use Rattle.watched.specs.Code.{number_of, answered, refuse, stopped_as, answer_as}
+use Rattle.watched.specs.declared.Refusal.{Refusal}
 use Rattle.watched.specs.declared.Stopped.{Stopped}
 
 abbrev kinds : List Entry → List ℕ
 kinds l = map (λ (e : Entry). e.kind) l
-
-abbrev addresses : List Entry → List ℕ
-addresses l = map (λ (e : Entry). e.address) l
 
 -- ---- the checks of a list, by its points
 pub short : (l : List Entry) → (points_of l).count ≤ 64 → length l ≤ 64
@@ -48,11 +47,14 @@ long l h = go (leb (length l) 64) refl
 pub check-long : (l : List Entry) → 64 < (points_of l).count → 40 ≡ list_check l
 check-long l h = rw (lt-leb (length l) 64 (long l h))
 
-pub check-kinds : (l : List Entry) (t : Bool) → (points_of l).count ≤ 64 → all_known (take (points_of l).count (points_of l).kinds) ≡ t → cond t 0 41 ≡ list_check l
+pub check-kinds : (l : List Entry) (t : Bool) → (points_of l).count ≤ 64 → all_known (kinds (take (points_of l).count (points_of l).entries)) ≡ t
+    → cond t 0 41 ≡ list_check l
 check-kinds l t h e =
     let n = short l h in
     let c = gathered l n in
-    let k : all_known (kinds l) ≡ t = sym (ap all_known (ap (λ (x : ℕ). take x (points_of l).kinds) c.count ∙ c.kinds)) ∙ e in
+    let k : all_known (kinds l) ≡ t =
+    sym (ap all_known (ap (λ (x : ℕ). kinds (take x (points_of l).entries)) c.count ∙ ap kinds c.entries ∙ bare-kinds l)) ∙ e
+    in
     rw (le-leb (length l) 64 n, k)
 
 -- a list that passes is not too long
@@ -67,14 +69,35 @@ passed zero l e = go (leb (length l) 64) refl e
     go false p q = absurd (omega (arith, q))
 passed (suc a) l e = absurd (omega (arith, e))
 
-pub or_else_some : (a b : ℕ) → (a ≡ 0 → ⊥) → a ≡ or_else a b
+-- no refusal has the number 0
+check-nonzero : (why : CheckT) → number_of_check why ≡ 0 → ⊥
+check-nonzero CheckT.RamTooLong e = omega (arith, e)
+check-nonzero CheckT.BadJournal e = omega (arith, e)
+check-nonzero CheckT.BadState e = omega (arith, e)
+check-nonzero CheckT.Halted e = omega (arith, e)
+check-nonzero CheckT.NotReady e = omega (arith, e)
+check-nonzero CheckT.NoRegister e = omega (arith, e)
+check-nonzero CheckT.NotRam e = omega (arith, e)
+check-nonzero CheckT.NoRecord e = omega (arith, e)
+check-nonzero CheckT.BadRecord e = omega (arith, e)
+
+nonzero : (why : Refusal) → number_of why ≡ 0 → ⊥
+nonzero (Refusal.Check why) e = check-nonzero why e
+nonzero Refusal.TooMany e = omega (arith, e)
+nonzero Refusal.UnknownKind e = omega (arith, e)
+
+or_else_some : (a b : ℕ) → (a ≡ 0 → ⊥) → a ≡ or_else a b
 or_else_some zero b h = absurd (h refl)
 or_else_some (suc a) b h = refl
+
+-- a check that fails comes before the list's
+pub check-first : (why : CheckT) (n b : ℕ) → number_of_check why ≡ n → number_of_check why ≡ or_else n b
+check-first why n b e = or_else_some (number_of_check why) b (check-nonzero why) ∙ ap (λ (x : ℕ). or_else x b) e
 
 -- ---- hits do not steer the run
 module _ (l : List Entry) where
   abbrev b : List Entry
-  b = bare (addresses l) (kinds l)
+  b = map bare l
 
   watched-same : (on on' : W → Stop) → ((w : W) → on w ≡ on' w) → (e : Effect Cpu) (w : W) → watched on b e w ≡ watched on' l e w
   watched-same on on' h e w = rw (bare-some (stored e) l, h w)
@@ -97,21 +120,23 @@ module _ (m : MachineT) (ram ws : List ℕ) (budget : ℕ) (l : List Entry) wher
   w = world_of m ram ws
 
   pub ran : (p : Points) (s : Stopped) (ram' ws' : List ℕ) → p ≡ points_of l → length l ≤ 64
-      → goes budget true (bare (take p.count p.addresses) (take p.count p.kinds)) w ≡ stopped_as s ram' ws'
-      → Names s.told (bare (take p.count p.addresses) (take p.count p.kinds))
+      → goes budget true (take p.count p.entries) w ≡ stopped_as s ram' ws'
+      → Names s.told (take p.count p.entries)
       → told (goes budget true l w) l ≡ answer_as (answered 0 s.told s.machine) ram' ws' (marked s.told.met l)
   ran p s ram' ws' e n g t =
       let c = gathered l n in
-      let fa : take p.count p.addresses ≡ addresses l = ap (λ (x : Points). take x.count x.addresses) e ∙ ap (λ (x : ℕ). take x (points_of l).addresses) c.count ∙ c.addresses in
-      let fk : take p.count p.kinds ≡ kinds l = ap (λ (x : Points). take x.count x.kinds) e ∙ ap (λ (x : ℕ). take x (points_of l).kinds) c.count ∙ c.kinds in
+      let f : take p.count p.entries ≡ map bare l =
+      ap (λ (x : Points). take x.count x.entries) e ∙ ap (λ (x : ℕ). take x (points_of l).entries) c.count ∙ c.entries
+      in
       told-as (goes budget true l w) s.told (world_of s.machine ram' ws') l
-      (sym (goes_same l budget true w) ∙ (rw (fa, fk) at g)) ((rw (fa, fk) at t) ∙ ap (placed s.told.ending) (bare-place s.told.met l))
+      (sym (goes_same l budget true w) ∙ (rw f at g)) ((rw f at t) ∙ ap (placed s.told.ending) (bare-place s.told.met l))
 
-  pub denies : (n : ℕ) → n ≡ or_else (check_of w) (list_check l) → (n ≡ 0 → ⊥)
-      → watched_of budget l w ≡ answer_as (refuse m n) ram ws (marked (refuse m n).told.met l)
+  pub denies : (why : Refusal) → number_of why ≡ or_else (check_of w) (list_check l)
+      → watched_of budget l w ≡ answer_as (refuse m (number_of why)) ram ws (marked (refuse m (number_of why)).told.met l)
   unfolding watched_of
-  denies n e h =
-      ap (λ (x : ℕ). unless_refused x w l (told (goes budget true l w) l)) (sym e) ∙ go n h ∙ ap (refused n w) (sym (never-marked 0 0 l))
+  denies why e =
+      ap (λ (x : ℕ). unless_refused x w l (told (goes budget true l w) l)) (sym e) ∙ go (number_of why) (nonzero why)
+      ∙ ap (refused (number_of why) w) (sym (never-marked 0 0 l))
     where
       go : (k : ℕ) → (k ≡ 0 → ⊥) → unless_refused k w l (told (goes budget true l w) l) ≡ refused k w l
       go zero z = absurd (z refl)

@@ -1,6 +1,6 @@
 -- How the code's answer to a watched run stands for the rules' own.
-use Rattle.std.specs.Prelude.{ℕ, ◌≡◌, List}
-use Rattle.calls.specs.Calls.{world_of}
+use Rattle.std.specs.Prelude.{ℕ, ◌≡◌, List, Result, Ok, Err}
+use Rattle.calls.specs.Calls.{number_of as number_of_check, world_of}
 use Rattle.calls.specs.declared.state.Machine.{Machine as MachineT}
 use Rattle.entries.specs.declared.Entry.{Entry}
 use Rattle.watching.specs.Watched.{Stop, nothing}
@@ -8,8 +8,20 @@ use Rattle.watching.specs.Code.{tells_of, stop_of}
 use Rattle.watching.specs.declared.Ending.TheVariants as Ending
 use Rattle.watching.specs.declared.Told.{Told}
 use Rattle.watched.specs.Answer.{Watched, watched_of}
+use Rattle.watched.specs.declared.Refusal.{Refusal}
 use Rattle.watched.specs.declared.Stopped.{Stopped}
 use Rattle.watched.specs.declared.Watched.{Watched as WatchedT}
+
+-- the paper's number for each refusal
+abbrev pub number_of : Refusal → ℕ
+number_of (Refusal.Check why) = number_of_check why
+number_of Refusal.TooMany = 40
+number_of Refusal.UnknownKind = 41
+
+-- what was checked, as a number: that of the refusal, or 0
+abbrev pub checked : {T : Type 0} → Result T Refusal → ℕ
+checked (Ok t) = 0
+checked (Err why) = number_of why
 
 abbrev pub answered : ℕ → Told → MachineT → WatchedT
 answered n t m = record { number = n; told = t; machine = m }

@@ -2,12 +2,13 @@
 #![tactic(auto)]
 
 ghost use Rattle.std.specs.Prelude.{◌≤◌, ◌≡◌, List, length, true};
-ghost use Rattle.calls.specs.Calls.{world_of};
+ghost use Rattle.calls.specs.Calls.{check_of, world_of};
 ghost use Rattle.entries.specs.declared.Entry.{Entry};
+ghost use Rattle.watched.specs.declared.Refusal.TheVariants.{Check};
 ghost use Rattle.entries.specs.Entries.{marked};
-ghost use Rattle.entries.specs.Code.{bare, points, points_of};
+ghost use Rattle.entries.specs.Code.{points_of};
 ghost use Rattle.watched.specs.Answer.{list_check, or_else, told as told_of};
-ghost use Rattle.watched.specs.Code.{answered as answered_by, refuse, stopped_as, answer_as, Watches};
+ghost use Rattle.watched.specs.Code.{number_of, checked, answered as answered_by, refuse, stopped_as, answer_as, Watches};
 ghost use Rattle.watching.specs.Code.{Names};
 ghost use Rattle.watching.specs.Watched.{goes};
 
@@ -18,7 +19,36 @@ use isa::opcode;
 use running::run;
 use watching::{Ending, Told};
 
-// The refusal's number (0: accepted), what the run tells, and the machine.
+// What the run refuses: what every call does, or its list.
+#[derive(Clone, Copy)]
+pub enum Refusal {
+    Check(calls::state::Refusal),
+    TooMany,
+    UnknownKind,
+}
+
+impl From<calls::state::Refusal> for Refusal {
+    ghost from_gives = { λ why e. e ≡ Check why };
+
+    fn from(why: calls::state::Refusal) -> Refusal {
+        Refusal::Check(why)
+    }
+}
+
+// The number that the rules give a refusal.
+impl From<Refusal> for u8 {
+    fn from(why: Refusal) -> u8
+        ensures { result ≡ number_of why }
+    {
+        match why {
+            Refusal::Check(first) => u8::from(first),
+            Refusal::TooMany => 40,
+            Refusal::UnknownKind => 41,
+        }
+    }
+}
+
+// The refusal's number (0: accepted), what the run tells, and the machine; a refused run tells nothing of its own, so that `mark` and the C boundary ask one value.
 #[derive(Clone, Copy)]
 pub struct Watched {
     pub number: u8,
@@ -32,23 +62,28 @@ struct Stopped {
     told: Told,
 }
 
-// 40, 41 or 0.
-fn list_check(n: usize, kinds: [u16; 64]) -> u8
-    ensures { (l : List Entry) → n ≡ (points_of l).count → kinds ≡ (points_of l).kinds → result ≡ list_check l }
+// The list's own refusals.
+fn list_check(p: Points) -> Result<(), Refusal>
+    ensures { (l : List Entry) → p ≡ points_of l → checked result ≡ list_check l }
 {
+    let n = p.count;
+    let entries = p.entries;
     if 64 < n {
-        return 40;
+        return Err(Refusal::TooMany);
     }
-    if entries::known(&kinds[0..n]) {
-        return 0;
+    if entries::known(&entries[0..n]) {
+        return Ok(());
     }
-    41
+    Err(Refusal::UnknownKind)
 }
 
-fn or_else(a: u8, b: u8) -> u8
-    ensures { result ≡ or_else a b }
+// What every call checks, then the list.
+fn check(m: Machine, ram: &[u8], journal: &[u16], p: Points) -> Result<(), Refusal>
+    ensures { (l : List Entry) → p ≡ points_of l
+        → checked result ≡ or_else (check_of (world_of m ram.now journal.now)) (list_check l) }
 {
-    if a == 0 { b } else { a }
+    checks::check(m, ram, journal)?;
+    list_check(p)
 }
 
 fn answered(number: u8, told: Told, machine: Machine) -> Watched
@@ -79,19 +114,11 @@ fn refused(m: Machine, number: u8) -> Watched
     answered(number, told, m)
 }
 
-// The run of a machine that has passed the checks, by the addresses and kinds of a list.
-fn run_columns(
-    m: Machine,
-    ram: &mut [u8],
-    journal: &mut [u16],
-    addresses: &[u16],
-    kinds: &[u16],
-    budget: u16,
-) -> Stopped
-    requires { length kinds.now ≡ length addresses.now }
-    ensures whole_run { goes budget true (bare addresses.now kinds.now) (world_of m ram.old journal.old)
+// The run of a machine that has passed the checks, by the entries of a list.
+fn run_list(m: Machine, ram: &mut [u8], journal: &mut [u16], list: &[Entry], budget: u16) -> Stopped
+    ensures whole_run { goes budget true list.now (world_of m ram.old journal.old)
         ≡ stopped_as result ram.new journal.new }
-    ensures names { Names result.told (bare addresses.now kinds.now) }
+    ensures names { Names result.told list.now }
 {
     let table = opcode::table();
     let before = m.cpu;
@@ -106,8 +133,7 @@ fn run_columns(
         run::place_of(m),
         ram,
         journal,
-        addresses,
-        kinds,
+        list,
         budget,
     );
     let after = e.board;
@@ -120,29 +146,23 @@ fn run_columns(
 }
 
 // The run of a machine and a list that have passed the checks; a longer list has not.
-fn accepted(
-    m: Machine,
-    ram: &mut [u8],
-    journal: &mut [u16],
-    n: usize,
-    addresses: [u16; 64],
-    kinds: [u16; 64],
-    budget: u16,
-) -> Watched
-    ensures { (l : List Entry) → points n addresses kinds ≡ points_of l → length l ≤ 64
+fn accepted(m: Machine, ram: &mut [u8], journal: &mut [u16], p: Points, budget: u16) -> Watched
+    ensures { (l : List Entry) → p ≡ points_of l → length l ≤ 64
         → told_of (goes budget true l (world_of m ram.old journal.old)) l
         ≡ answer_as result ram.new journal.new (marked result.told.met l) }
 {
+    let n = p.count;
+    let entries = p.entries;
     if 64 < n {
         return refused(m, 40);
     }
-    let s = run_columns(m, ram, journal, &addresses[0..n], &kinds[0..n], budget);
+    let s = run_list(m, ram, journal, &entries[0..n], budget);
     let told = s.told;
     let after = s.machine;
     answered(0, told, after)
 }
 
-// A watched run, by a list's addresses and kinds: whatever the list's hits are, those of the entries that the answer's `met` tells of rise by one.
+// A watched run by a list by value: whatever the list's hits are, those of the entries that the answer's `met` tells of rise by one.
 pub fn run_points(
     m: Machine,
     ram: &mut [u8],
@@ -153,14 +173,10 @@ pub fn run_points(
     ensures { (l : List Entry) → p ≡ points_of l
         → Watches budget m ram.old journal.old l result ram.new journal.new (marked result.told.met l) }
 {
-    let n = p.count;
-    let addresses = p.addresses;
-    let kinds = p.kinds;
-    let number = or_else(checks::check(m, ram, journal), list_check(n, kinds));
-    if number != 0 {
-        return refused(m, number);
+    match check(m, ram, journal, p) {
+        Err(why) => refused(m, u8::from(why)),
+        Ok(()) => accepted(m, ram, journal, p, budget),
     }
-    accepted(m, ram, journal, n, addresses, kinds, budget)
 }
 
 // The same on a lent list, whose hits are marked in it.

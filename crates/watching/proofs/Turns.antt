@@ -4,8 +4,8 @@ use mathlib.Core.Path.{◌≡◌, refl, sym, ◌∙◌, ap, subst}
 use mathlib.Core.Bool.{Bool, true, false, cond, not, ◌&&◌, ◌||◌}
 use mathlib.Core.List.{List, [], ◌∷◌}
 use native.Mathlib.Omega.{arith}
-use borrow.Author.Tests.{eq-eqb, ne_eqb, lt-ltb, le-ltb, eqb-true, eqb-false}
-use lib.Dec.{T, eqb, ltb}
+use borrow.Author.Tests.{eq-eqb, ne_eqb, eqb-true, eqb-false}
+use lib.Dec.{T, eqb}
 use lib.ListN.{length}
 use Rattle.bus.specs.State.{cpu, board}
 use Rattle.bus.specs.declared.state.Board.{Board}
@@ -16,12 +16,11 @@ use Rattle.calls.specs.Calls.{W, stretch_of}
 use Rattle.calls.proofs.Giving.{step-goes, step-stops}
 use Rattle.recording.specs.Code.{standing, Turn, turn_of, turn_as}
 use Rattle.recording.specs.declared.Recorded.{Recorded}
-use Rattle.entries.specs.Entries.{met_at, meets, any_of, place_of}
+use Rattle.std.specs.Prelude.{Some, None}
+use Rattle.entries.specs.Entries.{met_at, meets, any_of, place_of, found}
 use Rattle.entries.specs.declared.Entry.{Entry}
 use Rattle.entries.specs.declared.Met.{Met}
-use Rattle.entries.specs.Code.{bare}
-use Rattle.entries.proofs.Places.{bare-length}
-use Rattle.entries.proofs.Listed.{some-place, never_met}
+use Rattle.entries.proofs.Listed.{never_met}
 use Rattle.watching.specs.Watched.{Stop, stops, nothing, landed_byte, landed, reached, caught, turn, goes}
 use Rattle.watching.specs.Code.{caught_as, stop_of, sought_after, Names}
 use Rattle.watching.specs.declared.Ending.TheVariants.{Budget, Halted, Break}
@@ -43,39 +42,35 @@ begin budget l v =
     rw (a, eq-eqb budget budget refl) (same (omega arith) (omega arith))
 
 -- an empty list has nothing to search
-pub sought-empty : (skip : Bool) (f : Entry → Bool) (a k : List ℕ) → length a ≡ 0 → 0 ≡ cond skip (length a) (place_of f (bare a k))
-unfolding place_of bare
-sought-empty true f a k e = sym e
-sought-empty false f [] k e = refl
-sought-empty false f (x ∷ a) k e = absurd (omega (arith, e))
+empty-met : (f : Entry → Bool) (l : List Entry) → length l ≡ 0 → any_of f l ≡ false
+unfolding any_of
+empty-met f [] e = refl
+empty-met f (x ∷ l) e = absurd (omega (arith, e))
 
-empty-met : (f : Entry → Bool) (a k : List ℕ) → length a ≡ 0 → any_of f (bare a k) ≡ false
-unfolding any_of bare
-empty-met f [] k e = refl
-empty-met f (x ∷ a) k e = absurd (omega (arith, e))
+pub sought-empty : (skip : Bool) (f : Entry → Bool) (l : List Entry) → length l ≡ 0 → None ≡ cond skip None (found f l)
+sought-empty true f l e = refl
+sought-empty false f l e = rw (empty-met f l e)
 
--- ---- what a search tells: i is the place of the first entry met, or the list's length where the search was skipped
-module _ (skip : Bool) (f : Entry → Bool) (a k : List ℕ) (same_length : length k ≡ length a) (i : ℕ)
-    (e : i ≡ cond skip (length a) (place_of f (bare a k))) where
-  abbrev l : List Entry
-  l = bare a k
+-- ---- what a search tells: the place of the first entry met, if one is met and the search was not skipped
+search-some : (s t : Bool) (n i : ℕ) → Some i ≡ cond s None (cond t (Some n) None) → (s ≡ false) × (t ≡ true) × (i ≡ n)
+search-some true t n i e = absurd (grind arith)
+search-some false true n i e = (refl, refl, grind arith)
+search-some false false n i e = absurd (grind arith)
 
-  sought-some : (t : Bool) → skip ≡ t → (not skip && any_of f l) ≡ ltb i (length a)
-  sought-some true p = rw (e, p) (sym (le-ltb (length a) (length a) (omega arith)))
-  sought-some false p = rw (e, p) (some-place f l ∙ ap (ltb (place_of f l)) (bare-length a k same_length))
+search-none : (s t : Bool) (n : ℕ) → None ≡ cond s None (cond t (Some n) None) → (not s && t) ≡ false
+search-none true t n e = refl
+search-none false true n e = absurd (grind arith)
+search-none false false n e = refl
 
-  pub sought-met : i < length a → (not skip && any_of f l) ≡ true
-  sought-met h = sought-some skip refl ∙ lt-ltb i (length a) h
+module _ (skip : Bool) (f : Entry → Bool) (l : List Entry) where
+  pub sought-some : (i : ℕ) → Some i ≡ cond skip None (found f l) → (skip ≡ false) × (any_of f l ≡ true) × (i ≡ place_of f l)
+  sought-some i e = search-some skip (any_of f l) (place_of f l) i e
 
-  pub sought-none : length a ≤ i → (not skip && any_of f l) ≡ false
-  sought-none h = sought-some skip refl ∙ le-ltb i (length a) h
+  pub sought-met : (i : ℕ) → Some i ≡ cond skip None (found f l) → (not skip && any_of f l) ≡ true
+  sought-met i e = let q = sought-some i e in rw (q.0, q.1)
 
-  pub sought-place : i < length a → i ≡ place_of f l
-  sought-place h = go skip refl
-    where
-      go : (t : Bool) → skip ≡ t → i ≡ place_of f l
-      go true p = let q : i ≡ length a = e ∙ rw p in absurd (omega (arith, q, h))
-      go false p = e ∙ rw p
+  pub sought-none : None ≡ cond skip None (found f l) → (not skip && any_of f l) ≡ false
+  sought-none e = search-none skip (any_of f l) (place_of f l) e
 
 -- ---- what is looked for after a step that stored n bytes
 module _ (t : Bool) (p : Stretch) (m n a : ℕ) (x : Met) where
@@ -108,47 +103,35 @@ module _ (t : Bool) (p : Stretch) (m n a : ℕ) (x : Met) where
       go (suc (suc k)) f g = e
 
 -- so for the bytes that a step stored: they meet no entry where the search was skipped, since the list is empty or nothing was stored
-module _ (p : Stretch) (m n first : ℕ) (a k : List ℕ) (same_length : length k ≡ length a) (i : ℕ) (x : Met) where
+module _ (p : Stretch) (m n first : ℕ) (l : List Entry) (x : Met) where
   abbrev skip : Bool
-  skip = eqb (length a) 0 || eqb n 0
+  skip = eqb (length l) 0 || eqb n 0
 
   abbrev y : Met
   y = landed p m n first
 
-  module _ (f : x ≡ sought_after skip p m n first) (e : i ≡ cond skip (length a) (place_of (meets x) (bare a k))) where
-    unmet : (z t : Bool) → eqb (length a) 0 ≡ z → eqb n 0 ≡ t → (z || t) ≡ true → any_of (meets y) (bare a k) ≡ false
+  module _ (f : x ≡ sought_after skip p m n first) where
+    unmet : (z t : Bool) → eqb (length l) 0 ≡ z → eqb n 0 ≡ t → (z || t) ≡ true → any_of (meets y) l ≡ false
     unfolding landed
-    unmet true t q r s = empty-met (meets y) a k (eqb-true (length a) 0 q)
-    unmet false true q r s = rw (eqb-true n 0 r) (never_met 2 first (bare a k))
+    unmet true t q r s = empty-met (meets y) l (eqb-true (length l) 0 q)
+    unmet false true q r s = rw (eqb-true n 0 r) (never_met 2 first l)
     unmet false false q r s = absurd (subst T (sym s) tt)
 
     -- what was looked for is what was stored, where something is met
-    looked : i < length a → (skip ≡ false) × (x ≡ y)
-    looked h = go skip refl
+    pub stored-some : (i : ℕ) → Some i ≡ cond skip None (found (meets x) l) → (x ≡ y) × (any_of (meets y) l ≡ true) × (i ≡ place_of (meets x) l)
+    stored-some i e =
+        let q = sought-some skip (meets x) l i e in
+        let z : x ≡ y = f ∙ rw q.0 in
+        (z, ap (λ (v : Met). any_of (meets v) l) (sym z) ∙ q.1, q.2)
+
+    pub stored-none : None ≡ cond skip None (found (meets x) l) → any_of (meets y) l ≡ false
+    stored-none e = go skip refl
       where
-        go : (t : Bool) → skip ≡ t → (skip ≡ false) × (x ≡ y)
-        go true q = let z : i ≡ length a = e ∙ rw q in absurd (omega (arith, z, h))
-        go false q = (q, f ∙ rw q)
-
-    pub stored_is : i < length a → x ≡ y
-    stored_is h = (looked h).1
-
-    pub stored-met : i < length a → any_of (meets y) (bare a k) ≡ true
-    stored-met h =
-        let q = looked h in
-        ap (λ (v : Met). any_of (meets v) (bare a k)) (sym q.1) ∙ (rw q.0 at (sought-met skip (meets x) a k same_length i e h))
-
-    pub stored-place : i < length a → i ≡ place_of (meets x) (bare a k)
-    stored-place h = sought-place skip (meets x) a k same_length i e h
-
-    pub stored-none : length a ≤ i → any_of (meets y) (bare a k) ≡ false
-    stored-none h = go skip refl
-      where
-        go : (t : Bool) → skip ≡ t → any_of (meets y) (bare a k) ≡ false
-        go true q = unmet (eqb (length a) 0) (eqb n 0) refl refl q
+        go : (t : Bool) → skip ≡ t → any_of (meets y) l ≡ false
+        go true q = unmet (eqb (length l) 0) (eqb n 0) refl refl q
         go false q =
             let z : x ≡ y = f ∙ rw q in
-            ap (λ (v : Met). any_of (meets v) (bare a k)) (sym z) ∙ (rw q at (sought-none skip (meets x) a k same_length i e h))
+            ap (λ (v : Met). any_of (meets v) l) (sym z) ∙ (rw q at (sought-none skip (meets x) l e))
 
 -- the end of a step that stored to a watched address
 caught-is : (s b p : ℕ) (x : Met) (u : W) (t : Bool) → u.box.cpu.board.halted ≡ t

@@ -1,18 +1,17 @@
 // The one loop over recorded steps: a run that goes by a list of breaks and watches. The plain run goes by an empty list.
 #![tactic(auto)]
 
-ghost use Rattle.std.specs.Prelude.{◌≡◌, true, cond, length};
+ghost use Rattle.std.specs.Prelude.{◌≡◌, true, cond, None};
 ghost use Rattle.isa.specs.Code.{TellsAll};
 ghost use Rattle.bus.specs.State.{cpu};
 ghost use Rattle.recording.specs.Code.{standing};
-ghost use Rattle.entries.specs.Entries.{met_at, meets, place_of};
-ghost use Rattle.entries.specs.Code.{bare};
+ghost use Rattle.entries.specs.Entries.{met_at, meets, found};
 ghost use Rattle.watching.specs.Watched.{goes, landed_byte, landed as landed_of};
 ghost use Rattle.watching.specs.Code.{tells_of, caught_as, ended_as, sought_after, Names};
 
 use bus::address;
 use bus::state::{Board, Stretch};
-use entries::Met;
+use entries::{Entry, Met};
 use history::Place;
 use names::register::PC;
 use word::sums;
@@ -27,7 +26,8 @@ pub enum Ending {
     Break,
 }
 
-// The steps done, the sum of their bus bytes, why the run stopped, the entries that the stop meets, and the place of the one that is named.
+// The steps done, the sum of their bus bytes, why the run stopped, the entries that the stop meets, and the place of the one that is named: 0 where none is, as
+// `Names` and the result over the C boundary have it.
 #[derive(Clone, Copy)]
 pub struct Told {
     pub steps: u16,
@@ -110,24 +110,23 @@ fn caught(steps: u16, bus: u32, halted: bool, met: Met, place: usize) -> Told
     tells(steps, bus, Ending::Watch, met, place)
 }
 
-// The place of the first entry that is met, or the list's length; not asked where `skip` says that none can be. An empty list is told first, since the plain run
-// asks here at each step.
-fn sought(skip: bool, addresses: &[u16], kinds: &[u16], x: Met) -> usize
-    requires { length kinds.now ≡ length addresses.now }
-    ensures { result ≡ cond skip (length addresses.now) (place_of (meets x) (bare addresses.now kinds.now)) }
+// The place of the first entry that is met; not asked where `skip` says that none can be. An empty list is told first, since the plain run asks here at each step.
+fn sought(skip: bool, list: &[Entry], x: Met) -> Option<usize>
+    ensures { result ≡ cond skip None (found (meets x) list.now) }
 {
-    if addresses.len() == 0 {
-        return 0;
+    if list.len() == 0 {
+        return None;
     }
     if skip {
-        return addresses.len();
+        return None;
     }
-    entries::first(addresses, kinds, x)
+    entries::first(list, x)
 }
 
 // Steps until the machine is halted, the budget used up, a watch or a break met. Registers and CSRs are lent and not copied, since a lone step's caller reads
 // at once what the step wrote; the protected addresses are those at the start, and the board's other parts stay apart from step to step (`recorded_step` says why). There is no other loop over steps: with a second
-// place that steps, the compiler would not make one loop of the run and the recorded step.
+// place that steps, the compiler would not make one loop of the run and the recorded step. What travels together stays apart, in one body (docs/DECISIONS.md,
+// "Choices for speed").
 pub fn advance(
     table: &[u8; 256],
     regs: &mut [u16; 16],
@@ -136,16 +135,14 @@ pub fn advance(
     place: Place,
     ram: &mut [u8],
     journal: &mut [u16],
-    addresses: &[u16],
-    kinds: &[u16],
+    list: &[Entry],
     budget: u16,
 ) -> Ended
-    requires { length kinds.now ≡ length addresses.now }
     ensures whole_run { TellsAll table.now
-        → goes budget true (bare addresses.now kinds.now)
+        → goes budget true list.now
         (standing (cpu regs.old csrs.old board) place ram.old journal.old)
         ≡ ended_as result regs.new csrs.new ram.new journal.new }
-    ensures names { Names result.told (bare addresses.now kinds.now) }
+    ensures names { Names result.told list.now }
 {
     let mut devices = board.devices;
     let mut halted = board.halted;
@@ -161,8 +158,7 @@ pub fn advance(
             break tells(budget, bus, Ending::Budget, met(0, 0, 0), 0);
         }
         let reached = met(1, 1, regs[PC]);
-        let i = sought(left == budget, addresses, kinds, reached);
-        if i < addresses.len() {
+        if let Some(i) = sought(left == budget, list, reached) {
             break tells(budget - left, bus, Ending::Break, reached, i);
         }
         let before = Board {
@@ -177,10 +173,9 @@ pub fn advance(
         at = r.place;
         bus = bus + r.bus as u32;
         left = left - 1;
-        let skip = (addresses.len() == 0) | (r.count == 0);
+        let skip = (list.len() == 0) | (r.count == 0);
         let stored = landed(skip, stretch, ram.len(), r.count, r.first);
-        let k = sought(skip, addresses, kinds, stored);
-        if k < addresses.len() {
+        if let Some(k) = sought(skip, list, stored) {
             break caught(budget - left, bus, halted, stored, k);
         }
     };

@@ -1,4 +1,4 @@
-use Rattle.std.proofs.Common.{List, refl, sym, ap, ◌∙◌, get_or, fold}
+use Rattle.std.proofs.Common.{List, sym, ap, ◌∙◌, get_or, fold}
 use Rattle.std.proofs.lemmas.List.{take_all}
 use Rattle.std.proofs.lemmas.List.Sums.{fold_more}
 use Rattle.entries.specs.Entries.{entry}
@@ -18,4 +18,4 @@ loop-e-preserved c =
 
 pub returns : goal.returns
 unfolding added_all
-returns c = (c.loop-e.invariant ∙ ap (λ (l : List Entry). fold added no_points l) (take_all c.loop-e.e-index c.args.list.now c.loop-e-test.false), refl)
+returns c = c.loop-e.invariant ∙ ap (λ (l : List Entry). fold added no_points l) (take_all c.loop-e.e-index c.args.list.now c.loop-e-test.false)

@@ -1,7 +1,6 @@
 use Prim.Native.Nat.{◌-◌, ◌<◌}
 use mathlib.Core.Path.{◌≡◌, subst}
 use native.Mathlib.Omega.{arith}
-use Rattle.entries.specs.Code.{points}
 use Rattle.entries.specs.declared.Points.{Points}
 use Rattle.watched.proofs.Answering.{long, ran}
 use Rattle.watched.proofs.accepted.Goals as goal
@@ -11,7 +10,7 @@ returns-then-n-gt64 c l e n = let m = long l (subst (λ (p : Points). 64 < p.cou
 
 pub returns : goal.returns
 returns c l e n = let a = c.args in
-    let z : a.n - 0 ≡ a.n = omega arith in
+    let z : a.p.count - 0 ≡ a.p.count = omega arith in
     rw c.answered.ensures
-    (ran a.m a.ram.now a.journal.now a.budget l (points a.n _ _) c.run_columns-s.result _ _ e n
-    (rw z at c.run_columns-s.ensures.whole_run) (rw z at c.run_columns-s.ensures.names))
+    (ran a.m a.ram.now a.journal.now a.budget l a.p c.run_list-s.result _ _ e n
+    (rw z at c.run_list-s.ensures.whole_run) (rw z at c.run_list-s.ensures.names))

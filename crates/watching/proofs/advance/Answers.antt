@@ -1,12 +1,12 @@
 use Prim.Native.Nat.{◌+◌, ◌-◌, ◌*◌, ◌≤◌, ◌<◌}
-use mathlib.Core.Path.{refl, ◌∙◌}
+use mathlib.Core.Path.{refl, sym, ◌∙◌}
 use native.Mathlib.Omega.{arith}
 use lib.Dec.{eqb}
 use Rattle.names.specs.Names.{PC}
 use Rattle.bus.specs.State.{word, cpu}
 use Rattle.recording.specs.Code.{standing}
 use Rattle.entries.specs.Entries.{met_at, meets}
-use Rattle.watching.proofs.Turns.{begin, sought-met, sought-none, sought-place, stored_is, stored-met, stored-place, stored-none, halts, ends, breaks, goes_on, catches, caught-names}
+use Rattle.watching.proofs.Turns.{begin, sought-some, sought-met, sought-none, stored-some, stored-none, halts, ends, breaks, goes_on, catches, caught-names}
 use Rattle.watching.proofs.advance.Goals as goal
 
 pub loop-halted-init : goal.loop-halted-init
@@ -21,30 +21,17 @@ loop-halted-init c = let a = c.args in (
 pub overflow_sub-budget : goal.overflow_sub-budget
 overflow_sub-budget c = omega (arith, c.loop-halted.invariant.0)
 
-pub overflow_sub-budget-then-i-addresses : goal.overflow_sub-budget-then-i-addresses
-overflow_sub-budget-then-i-addresses c = omega (arith, c.loop-halted.invariant.0)
-
-pub sought-i-requires : goal.sought-i-requires
-sought-i-requires c = c.requires
-
 pub overflow_add-bus : goal.overflow_add-bus
 overflow_add-bus c = omega (arith, c.loop-halted.invariant.0, c.loop-halted.invariant.1, c.if-left-eq0.false, c.recorded_step-r.type_inv, c.ranges.budget)
 
 pub overflow_sub-left : goal.overflow_sub-left
 overflow_sub-left c = omega (arith, c.if-left-eq0.false)
 
-pub sought-k-requires : goal.sought-k-requires
-sought-k-requires c = c.requires
-
-pub overflow_sub-budget-then-k-addresses : goal.overflow_sub-budget-then-k-addresses
-overflow_sub-budget-then-k-addresses c = omega (arith, c.loop-halted.invariant.0)
-
 pub loop-halted-smaller : goal.loop-halted-smaller
 loop-halted-smaller c = omega (arith, c.if-left-eq0.false)
 
 pub loop-halted-preserved : goal.loop-halted-preserved
-loop-halted-preserved c = let a = c.args.addresses.now in
-    let k = c.args.kinds.now in
+loop-halted-preserved c = let list = c.args.list.now in
     let r = c.recorded_step-r.result in
     let l : 0 < c.loop-halted.left = omega (arith, c.if-left-eq0.false) in
     let b : c.loop-halted.bus + r.bus + 255 * (c.loop-halted.left - 1) ≤ 255 * c.args.budget =
@@ -52,8 +39,12 @@ loop-halted-preserved c = let a = c.args.addresses.now in
     in
     let n : c.loop-halted.left - 1 ≤ c.args.budget = omega (arith, c.loop-halted.invariant.0) in
     let stands = c.if-halted.false in
-    let went = sought-none (eqb c.loop-halted.left c.args.budget) (meets (met_at 1 1 (word c.loop-halted.regs PC))) a k c.requires _ (rw c.met-reached.ensures at c.sought-i.ensures) c.if-i-addresses.false in
-    let unmet = stored-none c.args.board.stretch _ r.count r.first a k c.requires _ _ c.landed-stored.ensures c.sought-k.ensures c.if-k-addresses.false in (
+    let went = sought-none (eqb c.loop-halted.left c.args.budget) (meets (met_at 1 1 (word c.loop-halted.regs PC))) list
+    (sym c.in_default.is ∙ (rw c.met-reached.ensures at c.sought.ensures))
+    in
+    let unmet = stored-none c.args.board.stretch _ r.count r.first list _ c.landed-stored.ensures
+    (sym c.in_default-sought.is ∙ c.sought-in-loop-halted.ensures)
+    in (
       n,
       b,
       (λ tells. goes_on _ _ _ _ _ _
@@ -73,42 +64,34 @@ returns-then-left-eq0 c = record {
   names = rw c.tells-told-then-left-eq0.ensures;
 }
 
-pub returns-then-i-addresses : goal.returns-then-i-addresses
-returns-then-i-addresses c = let a = c.args.addresses.now in
-    let k = c.args.kinds.now in
+pub returns-in-Some : goal.returns-in-Some
+returns-in-Some c = let list = c.args.list.now in
     let s = eqb c.loop-halted.left c.args.budget in
     let f = meets (met_at 1 1 (word c.loop-halted.regs PC)) in
-    let e = rw c.met-reached.ensures at c.sought-i.ensures in
-    let i = c.if-i-addresses.true in
+    let e = sym c.in-Some.is ∙ (rw c.met-reached.ensures at c.sought.ensures) in
+    let q = sought-some s f list c.in-Some.i e in
     record {
-      whole_run = (λ tells. rw (c.tells-told-then-i-addresses.ensures, c.met-reached.ensures)
-          (breaks _ _ _ _ _ _ (c.loop-halted.invariant.2 tells) c.if-halted.false (omega (arith, c.if-left-eq0.false)) (sought-met s f a k c.requires _ e i)));
-      names = rw (c.tells-told-then-i-addresses.ensures, c.met-reached.ensures) (sought-place s f a k c.requires _ e i);
+      whole_run = (λ tells. rw (c.tells-told-in-Some.ensures, c.met-reached.ensures)
+          (breaks _ _ _ _ _ _ (c.loop-halted.invariant.2 tells) c.if-halted.false (omega (arith, c.if-left-eq0.false)) (sought-met s f list c.in-Some.i e)));
+      names = rw (c.tells-told-in-Some.ensures, c.met-reached.ensures) q.2;
     }
 
-pub returns-then-k-addresses : goal.returns-then-k-addresses
-returns-then-k-addresses c = let a = c.args.addresses.now in
-    let k = c.args.kinds.now in
+pub returns-in-Some-sought : goal.returns-in-Some-sought
+returns-in-Some-sought c = let list = c.args.list.now in
     let r = c.recorded_step-r.result in
     let stood = c.if-halted.false in
     let l : 0 < c.loop-halted.left = omega (arith, c.if-left-eq0.false) in
-    let went = sought-none (eqb c.loop-halted.left c.args.budget) (meets (met_at 1 1 (word c.loop-halted.regs PC))) a k c.requires _ (rw c.met-reached.ensures at c.sought-i.ensures) c.if-i-addresses.false in
-    let p = c.args.board.stretch in
-    let f = c.landed-stored.ensures in
-    let e = c.sought-k.ensures in
-    let i = c.if-k-addresses.true in
-    let met = stored_is p _ r.count r.first a k c.requires _ _ f e i in record {
-      whole_run = (λ tells. rw (c.caught-told.ensures, met)
+    let went = sought-none (eqb c.loop-halted.left c.args.budget) (meets (met_at 1 1 (word c.loop-halted.regs PC))) list
+    (sym c.in_default.is ∙ (rw c.met-reached.ensures at c.sought.ensures))
+    in
+    let q = stored-some c.args.board.stretch _ r.count r.first list _ c.landed-stored.ensures c.in-Some-sought.k
+    (sym c.in-Some-sought.is ∙ c.sought-in-loop-halted.ensures)
+    in
+    record {
+      whole_run = (λ tells. rw (c.caught-told.ensures, q.0)
           (catches _ _ _ _ _ _
           (c.loop-halted.invariant.2 tells) stood l c.loop-halted.invariant.0 went r _ _ _ _
-          (c.recorded_step-r.ensures tells) _ (stored-met p _ r.count r.first a k c.requires _ _ f e i)));
+          (c.recorded_step-r.ensures tells) _ q.1));
       names = rw c.caught-told.ensures
-          (caught-names (c.args.budget - (c.loop-halted.left - 1)) (c.loop-halted.bus + r.bus) _ c.landed-stored.result _ r.board.halted
-          (stored-place p _ r.count r.first a k c.requires _ _ f e i));
+          (caught-names (c.args.budget - (c.loop-halted.left - 1)) (c.loop-halted.bus + r.bus) _ c.landed-stored.result _ r.board.halted q.2);
     }
-
-pub shape_of-ram-then-k-addresses : goal.shape_of-ram-then-k-addresses
-shape_of-ram-then-k-addresses c = c.recorded_step-r.auto.ram ∙ c.loop-halted.invariant.3
-
-pub shape_of-journal-then-k-addresses : goal.shape_of-journal-then-k-addresses
-shape_of-journal-then-k-addresses c = c.recorded_step-r.auto.journal ∙ c.loop-halted.invariant.4

@@ -1,9 +1,9 @@
 use Rattle.watching.proofs.Turns.{sought-empty}
 use Rattle.watching.proofs.sought.Goals as goal
 
-pub returns-then-addresses-eq0 : goal.returns-then-addresses-eq0
-returns-then-addresses-eq0 c = let a = c.args in
-    sought-empty a.skip _ a.addresses.now a.kinds.now c.if-addresses-eq0.true
+pub returns-then-list-eq0 : goal.returns-then-list-eq0
+returns-then-list-eq0 c = let a = c.args in
+    sought-empty a.skip _ a.list.now c.if-list-eq0.true
 
 pub returns-then-skip : goal.returns-then-skip
 returns-then-skip c = rw c.if-skip.true
