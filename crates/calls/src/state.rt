@@ -52,7 +52,7 @@ pub struct Run {
     pub stop: Stop,
 }
 
-// A lone step tells its bus bytes.
+// A lone step tells its bus bytes. No Result: three of the four are ways to be accepted, and `said_by` tells all four apart; a Result round three says no more.
 #[derive(Clone, Copy)]
 pub enum Answer {
     Accepted,

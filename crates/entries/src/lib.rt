@@ -23,7 +23,7 @@ pub struct Met {
 }
 
 // A list by value, without its hits, which steer no run: at most 64 entries, and how many there are (no heap: so an array and a count). A list that is too long
-// has the count 65.
+// has the count 65, as `too_long` says and the edit sixty_fifth_untold tries.
 #[derive(Clone, Copy)]
 pub struct Points {
     pub count: usize,
@@ -98,7 +98,7 @@ pub fn add(p: Points, e: Entry) -> Points
     Points { count: 65, entries }
 }
 
-// The hits of a list that is kept in columns, marked as `mark` marks a lent one.
+// The hits of a list that is kept in columns, marked as `mark` marks a lent one; kept for the theorem `raised-marked` and the edit columns_take_addresses.
 pub fn raise(addresses: [u16; 64], kinds: [u16; 64], hits: [u16; 64], x: Met) -> [u16; 64]
     ensures { result ≡ raised_all x addresses kinds hits }
 {

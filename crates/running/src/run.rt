@@ -17,7 +17,7 @@ use history::Place;
 use isa::opcode;
 use watching::{Ended, Ending, Told};
 
-// Why a run by an empty list stopped.
+// Why a run by an empty list stopped (no `From`: neither type is of this crate).
 fn stop_of(ending: Ending) -> Stop
     ensures { result ≡ stop_from (run_cause ending) }
 {
