@@ -1,5 +1,5 @@
 // The lines of standard output, each made in a row before it is written.
-use console::rows;
+use console::rows::Row;
 
 // A pen that was accepted, but for its name.
 #[derive(Clone, Copy)]
@@ -18,50 +18,45 @@ pub enum Cause {
     Budget,
 }
 
-fn put_cause(row: &mut [u8], at: usize, c: Cause) -> usize {
-    match c {
-        Cause::Stop => rows::put_all(row, at, b"stop"),
-        Cause::Halted => rows::put_all(row, at, b"halted"),
-        Cause::Budget => rows::put_all(row, at, b"budget"),
+impl Cause {
+    fn word(self) -> &'static [u8] {
+        match self {
+            Cause::Stop => b"stop",
+            Cause::Halted => b"halted",
+            Cause::Budget => b"budget",
+        }
     }
 }
 
-pub fn put_number(row: &mut [u8], at: usize, n: u64) -> usize {
-    let mut digits = [0u8; 20];
-    let k = io::decimal(n, &mut digits);
-    rows::put_all(row, at, &digits[0..k])
-}
-
-fn put_tab(row: &mut [u8], at: usize) -> usize {
-    rows::put(row, at, b'\t')
-}
-
 // What the run came to, with a tab before each part.
-fn put_run(row: &mut [u8], at: usize, t: Told) -> usize {
-    let c = t.cause;
-    let mut p = put_tab(row, at);
-    p = rows::put_hex(row, p, t.r0, 4);
-    p = put_tab(row, p);
-    p = put_cause(row, p, c);
-    p = put_tab(row, p);
-    p = put_number(row, p, t.steps as u64);
-    p = put_tab(row, p);
-    put_number(row, p, t.bus as u64)
+fn put_run(row: &mut Row<'_>, t: Told) {
+    row.put(b'\t');
+    row.put_hex(t.r0, 4);
+    row.put(b'\t');
+    row.put_all(t.cause.word());
+    row.put(b'\t');
+    row.put_number(u64::from(t.steps));
+    row.put(b'\t');
+    row.put_number(u64::from(t.bus));
 }
 
-// The line of an accepted pen, put into the row; where it ends there.
-pub fn accepted(row: &mut [u8], pen: &[u8], t: Told, name: &[u8]) -> usize {
-    let mut p = rows::put_all(row, 0, pen);
-    p = put_run(row, p, t);
-    p = put_tab(row, p);
-    p = rows::put_all(row, p, name);
-    rows::put(row, p, b'\n')
+// The line of an accepted pen, made in the room.
+pub fn accepted<'a>(room: &'a mut [u8], pen: &[u8], t: Told, name: &[u8]) -> &'a [u8] {
+    let mut row = Row::new(room);
+    row.put_all(pen);
+    put_run(&mut row, t);
+    row.put(b'\t');
+    row.put_all(name);
+    row.put(b'\n');
+    row.finished()
 }
 
 // The line of a refused pen.
-pub fn refused(row: &mut [u8], pen: &[u8], number: u8) -> usize {
-    let mut p = rows::put_all(row, 0, pen);
-    p = rows::put_all(row, p, b"\trefused\t");
-    p = put_number(row, p, number as u64);
-    rows::put(row, p, b'\n')
+pub fn refused<'a>(room: &'a mut [u8], pen: &[u8], number: u8) -> &'a [u8] {
+    let mut row = Row::new(room);
+    row.put_all(pen);
+    row.put_all(b"\trefused\t");
+    row.put_number(u64::from(number));
+    row.put(b'\n');
+    row.finished()
 }

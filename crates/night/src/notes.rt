@@ -3,13 +3,11 @@ use console::values;
 
 // Where it takes no more, the rest is let go.
 pub fn text(rt: &HostRuntime, bytes: &[u8]) {
-    let _ = rt.stderr().write_all(bytes);
+    report::text(&rt.stderr(), bytes);
 }
 
 pub fn decimal(rt: &HostRuntime, n: u64) {
-    let mut digits = [0u8; 20];
-    let k = io::decimal(n, &mut digits);
-    text(rt, &digits[..k]);
+    report::decimal(&rt.stderr(), n);
 }
 
 // Each message begins so.
@@ -23,12 +21,7 @@ pub fn end(rt: &HostRuntime) {
 
 // A word as it may be shown on a terminal.
 pub fn show(rt: &HostRuntime, word: &[u8]) {
-    let mut i: usize = 0;
-    while i < word.len() {
-        let one = [values::printable(word[i])];
-        text(rt, &one);
-        i += 1;
-    }
+    values::show(&rt.stderr(), word);
 }
 
 // A message with nothing after it.
@@ -41,8 +34,5 @@ pub fn say(rt: &HostRuntime, what: &[u8]) {
 // A line that says what was wrong with a word.
 pub fn complain(rt: &HostRuntime, what: &[u8], word: &[u8]) {
     begin(rt);
-    text(rt, what);
-    text(rt, b": ");
-    show(rt, word);
-    end(rt);
+    values::complain(&rt.stderr(), what, word);
 }

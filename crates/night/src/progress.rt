@@ -1,7 +1,7 @@
 // How far a night is, in a line at a terminal that is written over; and the lines of standard output themselves.
 use crate::totals::Totals;
-use crate::{lines, notes, totals};
-use console::rows;
+use crate::{notes, totals};
+use console::rows::Row;
 use std::io::IsTerminal;
 use std::rt::Clock;
 use std::time::CpuClock;
@@ -30,30 +30,13 @@ fn worked(rt: &HostRuntime) -> u64 {
     }
 }
 
-// From one time to another.
-fn between(from: u64, to: u64) -> u64 {
-    if from < to {
-        return to - from;
-    }
-    0
-}
-
 // Lines: each ends at a newline, the last one also at the end.
 fn count(list: &[u8]) -> u64 {
-    let mut n: u64 = 0;
-    let mut is_begun = false;
-    let mut i: usize = 0;
-    while i < list.len() {
-        is_begun = list[i] != b'\n';
-        if !is_begun {
-            n = totals::one_more(n);
-        }
-        i += 1;
+    let ended = list.iter().filter(|b| **b == b'\n').count() as u64;
+    match list {
+        [] | [.., b'\n'] => ended,
+        _ => ended.saturating_add(1),
     }
-    if is_begun {
-        return totals::one_more(n);
-    }
-    n
 }
 
 // Before the first pen of a list. Where its lines go to a terminal, they are progress enough.
@@ -62,40 +45,36 @@ pub fn begin(rt: &HostRuntime, list: &[u8]) -> Totals {
     totals::none(count(list), is_watched, seconds(rt))
 }
 
-fn put_rate(row: &mut [u8], at: usize, done: u64, time: u64) -> usize {
-    if time < RATED {
-        return at;
+fn put_rate(row: &mut Row<'_>, done: u64, time: u64) {
+    if RATED <= time {
+        row.put_all(b", ");
+        row.put_number(done / time);
+        row.put_all(b" a second");
     }
-    let p = rows::put_all(row, at, b", ");
-    let q = lines::put_number(row, p, done / time);
-    rows::put_all(row, q, b" a second")
 }
 
 // The line is written over with blanks behind it.
 fn show(rt: &HostRuntime, t: Totals) {
     let mut room = [b' '; 64];
-    let row: &mut [u8] = &mut room;
-    let mut p = rows::put_all(row, 0, b"\rpens: ");
-    p = lines::put_number(row, p, t.done);
-    p = rows::put_all(row, p, b" of ");
-    p = lines::put_number(row, p, t.all);
-    p = rows::put_all(row, p, b" done, ");
-    p = lines::put_number(row, p, t.refused);
-    p = rows::put_all(row, p, b" refused");
-    put_rate(row, p, t.done, between(t.began, seconds(rt)));
-    notes::text(rt, row);
+    let mut row = Row::new(&mut room);
+    row.put_all(b"\rpens: ");
+    row.put_number(t.done);
+    row.put_all(b" of ");
+    row.put_number(t.all);
+    row.put_all(b" done, ");
+    row.put_number(t.refused);
+    row.put_all(b" refused");
+    put_rate(&mut row, t.done, seconds(rt).saturating_sub(t.began));
+    notes::text(rt, &room);
 }
 
 // Progress, where it is due. The processor's time is never ahead of a clock on the wall, so it is shown ten times a second at most.
 pub fn shown(rt: &HostRuntime, t: Totals) -> Totals {
-    if !t.is_watched {
-        return t;
-    }
-    if t.done % PENS != 0 {
+    if !t.is_watched | (t.done % PENS != 0) {
         return t;
     }
     let now = worked(rt);
-    if between(t.last, now) < PAUSE {
+    if now.saturating_sub(t.last) < PAUSE {
         return t;
     }
     show(rt, t);
@@ -124,6 +103,6 @@ pub fn written(rt: &HostRuntime, t: Totals, line: &[u8]) -> Totals {
         notes::say(rt, b"the output could not be written; no more lines are");
     }
     let mut u = t;
-    u.lost = totals::one_more(t.lost);
+    u.lost = t.lost.saturating_add(1);
     u
 }

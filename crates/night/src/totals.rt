@@ -1,7 +1,7 @@
 // What a night came to: its pens by cause and by refusal, and the pens that were refused.
 use crate::lines::Cause;
-use crate::{lines, notes};
-use console::{rows, words};
+use crate::notes;
+use console::rows::Row;
 
 // The most refused pens that are told one by one.
 const LISTED: u64 = 1000;
@@ -15,13 +15,10 @@ pub struct Totals {
     stop: u64,
     halted: u64,
     budget: u64,
-    by80: u64,
-    by81: u64,
-    by82: u64,
-    by83: u64,
-    // How many refused pens stand in the room for them, and where their text ends there.
+    // By the refusal's number, from 80 on.
+    by: [u64; 4],
+    // How many refused pens stand in the row for them.
     listed: u64,
-    end: usize,
     // The lines that could not be written.
     pub lost: u64,
     // Whether progress is shown; when the night began, in seconds, and when progress was last shown, by the processor's time.
@@ -39,12 +36,8 @@ pub fn none(all: u64, is_watched: bool, began: u64) -> Totals {
         stop: 0,
         halted: 0,
         budget: 0,
-        by80: 0,
-        by81: 0,
-        by82: 0,
-        by83: 0,
+        by: [0; 4],
         listed: 0,
-        end: 0,
         lost: 0,
         is_watched,
         began,
@@ -52,67 +45,60 @@ pub fn none(all: u64, is_watched: bool, began: u64) -> Totals {
     }
 }
 
-pub fn one_more(n: u64) -> u64 {
-    if n < u64::MAX {
-        return n + 1;
-    }
-    n
+fn one_more(n: &mut u64) {
+    *n = n.saturating_add(1);
 }
 
 pub fn with_accepted(t: Totals, c: Cause) -> Totals {
     let mut u = t;
-    u.done = one_more(t.done);
+    one_more(&mut u.done);
     match c {
-        Cause::Stop => u.stop = one_more(t.stop),
-        Cause::Halted => u.halted = one_more(t.halted),
-        Cause::Budget => u.budget = one_more(t.budget),
+        Cause::Stop => one_more(&mut u.stop),
+        Cause::Halted => one_more(&mut u.halted),
+        Cause::Budget => one_more(&mut u.budget),
     }
     u
 }
 
 fn counted(t: Totals, number: u8) -> Totals {
     let mut u = t;
-    u.done = one_more(t.done);
-    u.refused = one_more(t.refused);
-    match number {
-        80 => u.by80 = one_more(t.by80),
-        81 => u.by81 = one_more(t.by81),
-        82 => u.by82 = one_more(t.by82),
-        83 => u.by83 = one_more(t.by83),
-        _ => {}
+    one_more(&mut u.done);
+    one_more(&mut u.refused);
+    if let Some(n) = u.by.get_mut(usize::from(number.wrapping_sub(80))) {
+        one_more(n);
     }
     u
 }
 
 // A pen by its number, or by its line's where it has none.
-fn put_pen(room: &mut [u8], at: usize, pen: &[u8], is_number: bool, line: u64) -> usize {
-    let p = rows::put_all(room, at, pen);
-    if is_number {
-        return p;
+fn put_pen(row: &mut Row<'_>, pen: &[u8], is_number: bool, line: u64) {
+    row.put_all(pen);
+    if !is_number {
+        row.put_all(b" in line ");
+        row.put_number(line);
     }
-    let q = rows::put_all(room, p, b" in line ");
-    lines::put_number(room, q, line)
 }
 
-fn put_comma(room: &mut [u8], at: usize) -> usize {
-    if at == 0 {
-        return 0;
-    }
-    rows::put_all(room, at, b", ")
-}
-
-// One refused pen more; it is put into the room where there are not too many.
-pub fn with_refused(t: Totals, pen: &[u8], is_number: bool, number: u8, room: &mut [u8]) -> Totals {
+// One refused pen more; it is put into the row where there are not too many.
+pub fn with_refused(
+    t: Totals,
+    pen: &[u8],
+    is_number: bool,
+    number: u8,
+    row: &mut Row<'_>,
+) -> Totals {
     let mut u = counted(t, number);
     if LISTED <= t.listed {
         return u;
     }
-    let mut p = put_comma(room, t.end);
-    p = put_pen(room, p, pen, is_number, u.done);
-    p = rows::put_all(room, p, b" (");
-    p = lines::put_number(room, p, number as u64);
-    u.end = rows::put(room, p, b')');
-    u.listed = one_more(t.listed);
+    if !row.bytes().is_empty() {
+        row.put_all(b", ");
+    }
+    put_pen(row, pen, is_number, u.done);
+    row.put_all(b" (");
+    row.put_number(u64::from(number));
+    row.put(b')');
+    one_more(&mut u.listed);
     u
 }
 
@@ -121,10 +107,10 @@ fn tell(rt: &HostRuntime, n: u64, what: &[u8]) {
     notes::text(rt, what);
 }
 
-fn tell_refused(rt: &HostRuntime, t: Totals, room: &[u8]) {
+fn tell_refused(rt: &HostRuntime, t: Totals, pens: &[u8]) {
     notes::begin(rt);
     notes::text(rt, b"refused: ");
-    notes::text(rt, words::front(room, t.end));
+    notes::text(rt, pens);
     if t.listed < t.refused {
         notes::text(rt, b", and ");
         tell(rt, t.refused - t.listed, b" more");
@@ -132,20 +118,20 @@ fn tell_refused(rt: &HostRuntime, t: Totals, room: &[u8]) {
     notes::end(rt);
 }
 
-// What a night came to, at its end.
-pub fn tell_all(rt: &HostRuntime, t: Totals, room: &[u8]) {
+// What a night came to, at its end, with the refused pens as they were put.
+pub fn tell_all(rt: &HostRuntime, t: Totals, pens: &[u8]) {
     notes::begin(rt);
     tell(rt, t.done, b" done: ");
     tell(rt, t.stop, b" stop, ");
     tell(rt, t.halted, b" halted, ");
     tell(rt, t.budget, b" budget, ");
     tell(rt, t.refused, b" refused (");
-    tell(rt, t.by83, b" by 83, ");
-    tell(rt, t.by80, b" by 80, ");
-    tell(rt, t.by81, b" by 81, ");
-    tell(rt, t.by82, b" by 82)\n");
+    tell(rt, t.by[3], b" by 83, ");
+    tell(rt, t.by[0], b" by 80, ");
+    tell(rt, t.by[1], b" by 81, ");
+    tell(rt, t.by[2], b" by 82)\n");
     if t.refused != 0 {
-        tell_refused(rt, t, room);
+        tell_refused(rt, t, pens);
     }
     if t.lost != 0 {
         notes::begin(rt);
