@@ -1,6 +1,8 @@
 // What a command changed: parts of the state, bytes of memory; and the bytes that it stored to and that stayed.
-use crate::{parts, status};
-use console::words;
+use crate::parts;
+use crate::parts::Part;
+use crate::status::Noun;
+use crate::view::View;
 
 // The value before and after.
 pub fn arrow(rt: &impl Print, old: u16, new: u16, width: usize) {
@@ -17,25 +19,23 @@ pub fn place_name(rt: &impl Print, at: u16) {
     report::text(rt, b"]");
 }
 
-// A part that changed is shown; whether it did.
-fn part(rt: &impl Print, n: u8, old: u16, new: u16) -> bool {
-    if old == new {
-        return false;
-    }
+fn one_part(rt: &impl Print, part: Part, old: u16, new: u16) {
     report::text(rt, b"  ");
-    parts::name(rt, n);
-    arrow(rt, old, new, parts::width(n));
+    report::text(rt, part.name());
+    arrow(rt, old, new, part.width());
     report::end(rt);
-    true
 }
 
-// Whether any part changed.
-fn state(rt: &impl Print, before: &[u16; 32], after: &[u16; 32]) -> bool {
+// The parts that changed are shown; whether any did.
+fn state(rt: &impl Print, before: View, after: View) -> bool {
     let mut any = false;
-    let mut n: u8 = 0;
-    while n < parts::PARTS {
-        any = any | part(rt, n, parts::value(before, n), parts::value(after, n));
-        n += 1;
+    for &part in &parts::ALL {
+        let old = before.part(part);
+        let new = after.part(part);
+        if old != new {
+            one_part(rt, part, old, new);
+            any = true;
+        }
     }
     any
 }
@@ -58,64 +58,41 @@ fn one_byte(rt: &impl Print, at: usize, old: u8, new: u8) {
     report::end(rt);
 }
 
-// One byte: how many are to be told with it, so many having been before it. The first ones are shown, the others counted.
-fn memory_byte(
-    rt: &impl Print,
-    at: usize,
-    old: u8,
-    new: u8,
-    is_dropped: bool,
-    before: usize,
-) -> usize {
-    if (old == new) & !is_dropped {
-        return before;
-    }
-    if before < 32 {
-        one_byte(rt, at, old, new);
-    }
-    if before < 100000 {
-        return before + 1;
-    }
-    before
-}
+// The bytes that are shown; the others are counted.
+const SHOWN: usize = 32;
 
-// How many bytes changed, or stayed where a store was dropped.
-fn memory(rt: &impl Print, old: &[u8], ram: &[u8], dropped: &[u8]) -> usize {
+// How many bytes changed, or stayed where a store was dropped. The first ones are shown.
+fn memory(rt: &impl Print, before: &[u8], after: &[u8], dropped: &[u8]) -> usize {
     let mut n: usize = 0;
-    let mut i: usize = 0;
-    while i < ram.len() {
-        let is_dropped = words::byte_at(dropped, i) != 0;
-        n = memory_byte(rt, i, words::byte_at(old, i), ram[i], is_dropped, n);
-        i += 1;
+    for (i, &new) in after.iter().enumerate() {
+        let old = before.get(i).copied().unwrap_or(0);
+        let is_dropped = dropped.get(i).copied().unwrap_or(0) != 0;
+        if (old != new) | is_dropped {
+            if n < SHOWN {
+                one_byte(rt, i, old, new);
+            }
+            n = n.saturating_add(1);
+        }
     }
     n
 }
 
 // The bytes that are only counted.
 fn more(rt: &impl Print, n: usize) {
-    if n <= 32 {
-        return;
+    let noun = Noun {
+        one: b"more byte of memory\n",
+        more: b"more bytes of memory\n",
+    };
+    if SHOWN < n {
+        report::text(rt, b"  and ");
+        noun.count(rt, (n - SHOWN) as u64);
     }
-    report::text(rt, b"  and ");
-    status::count(
-        rt,
-        (n - 32) as u64,
-        b"more byte of memory\n",
-        b"more bytes of memory\n",
-    );
 }
 
-// What differs between the state before and after, and between the memory before and after. `dropped` has a mark for each byte at which a store was dropped.
-pub fn show(
-    rt: &impl Print,
-    before: &[u16; 32],
-    old: &[u8],
-    after: &[u16; 32],
-    ram: &[u8],
-    dropped: &[u8],
-) {
+// What differs between before and after. `dropped` has a mark for each byte at which a store was dropped.
+pub fn show(rt: &impl Print, before: View, after: View, dropped: &[u8]) {
     let any = state(rt, before, after);
-    let n = memory(rt, old, ram, dropped);
+    let n = memory(rt, before.ram, after.ram, dropped);
     more(rt, n);
     if !any & (n == 0) {
         report::text(rt, b"  no change\n");

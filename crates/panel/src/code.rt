@@ -1,49 +1,41 @@
 // list: memory as instructions.
-use crate::{parts, status};
-use console::{rows, values};
+use crate::status;
+use crate::view::View;
+use console::values;
+use console::values::Said;
 use word::sums;
 
 // The lines that list shows where the command names no number.
 const LINES: u16 = 8;
 
 // An address, the bytes there, and the instruction that they are.
-pub fn show(rt: &impl Print, state: &[u16; 32], ram: &[u8], at: u16) {
-    let w = status::word_at(state, ram, at);
-    let mut row = [b' '; 11];
-    rows::put_hex(&mut row, 0, at, 4);
-    rows::put_hex(&mut row, 5, w % 256, 2);
-    rows::put_hex(&mut row, 8, w / 256, 2);
-    report::text(rt, &row);
+pub fn show(rt: &impl Print, view: View, at: u16) {
+    let w = view.word_at(at);
+    report::hex(rt, at as u64, 4);
+    for byte in w.to_le_bytes() {
+        report::space(rt);
+        report::hex(rt, byte as u64, 2);
+    }
+    report::space(rt);
     status::instruction(rt, w);
 }
 
-fn one_line(rt: &impl Print, state: &[u16; 32], ram: &[u8], at: u16) {
-    show(rt, state, ram, at);
-    if at == parts::pc(state) {
-        report::text(rt, b"  <- pc");
-    }
-    report::end(rt);
-}
-
-fn lines(rt: &impl Print, state: &[u16; 32], ram: &[u8], from: u16, n: u16) {
+fn lines(rt: &impl Print, view: View, from: u16, n: u16) {
     let mut at = from;
-    let mut i: u16 = 0;
-    while i < n {
-        one_line(rt, state, ram, at);
+    for _ in 0..n {
+        show(rt, view, at);
+        if at == view.pc() {
+            report::text(rt, b"  <- pc");
+        }
+        report::end(rt);
         at = sums::plus(at, 2);
-        i += 1;
     }
 }
 
 // list [ADDR [COUNT]]
-pub fn list(rt: &impl Print, state: &[u16; 32], ram: &[u8], line: &[u8], at: usize) {
-    let a = values::number(rt, line, at, parts::pc(state));
-    if a.is_bad {
-        return;
-    }
-    let n = values::only(rt, line, a.to, LINES);
-    if n.is_bad {
-        return;
-    }
-    lines(rt, state, ram, a.value, n.value);
+pub fn list(rt: &impl Print, view: View, line: &[u8]) -> Result<(), Said> {
+    let (from, rest) = values::number(rt, line)?;
+    let n = values::only(rt, rest)?;
+    lines(rt, view, from.unwrap_or(view.pc()), n.unwrap_or(LINES));
+    Ok(())
 }

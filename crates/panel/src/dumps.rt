@@ -1,8 +1,11 @@
 // dump, dumpd, dumpw, dumpwd: a row shows 16 bytes as the processor reads them.
-use crate::{parts, protection};
-use bus::address;
-use bus::state::Devices;
-use console::{rows, values};
+ghost use Rattle.std.specs.Prelude.{◌<◌};
+
+use crate::protection;
+use crate::view::View;
+use console::rows::Row;
+use console::values;
+use console::values::Said;
 use word::sums;
 
 // Where the next dump starts, and how many bytes it shows.
@@ -12,49 +15,59 @@ pub struct Spot {
     pub size: usize,
 }
 
-// What a row shows: bytes or words, in hexadecimal or decimal.
+#[derive(Clone, Copy)]
+pub enum Unit {
+    Byte,
+    Word,
+}
+
+#[derive(Clone, Copy)]
+pub enum Base {
+    Hexadecimal,
+    Decimal,
+}
+
+// What a row shows, and how.
 #[derive(Clone, Copy)]
 pub struct Form {
-    pub is_words: bool,
-    pub is_decimal: bool,
+    pub unit: Unit,
+    pub base: Base,
 }
 
-fn byte_at(v: Devices, ram: &[u8], at: u16, i: u16) -> u8 {
-    address::read_byte(v, ram, sums::plus(at, i))
-}
-
-fn word_at(v: Devices, ram: &[u8], at: u16, i: u16) -> u16 {
-    address::read_word(v, ram, sums::plus(at, i))
-}
-
-// The cell of the byte, or of the word, some places after the row's address.
-fn cell(row: &mut [u8], p: usize, f: Form, v: Devices, ram: &[u8], at: u16, i: u16) -> usize {
-    let q = rows::put(row, p, b' ');
-    if f.is_words {
-        let w = word_at(v, ram, at, i);
-        if f.is_decimal {
-            return rows::put_decimal(row, q, w, 5);
-        }
-        return rows::put_hex(row, q, w, 4);
-    }
-    let b = byte_at(v, ram, at, i);
-    if f.is_decimal {
-        return rows::put_decimal(row, q, b as u16, 3);
-    }
-    rows::put_hex(row, q, b as u16, 2)
-}
-
-fn cells(row: &mut [u8], from: usize, f: Form, v: Devices, ram: &[u8], at: u16) -> usize {
-    let mut p = from;
-    let mut i: u16 = 0;
-    while i < 16 {
-        p = cell(row, p, f, v, ram, at, i);
-        i += 1;
-        if f.is_words {
-            i += 1;
+impl Form {
+    // The places from one cell's address to the next one's.
+    fn step(self) -> usize
+        ensures { 0 < result }
+    {
+        match self.unit {
+            Unit::Byte => 1,
+            Unit::Word => 2,
         }
     }
-    p
+
+    fn value(self, view: View, at: u16) -> u16 {
+        match self.unit {
+            Unit::Byte => view.byte_at(at) as u16,
+            Unit::Word => view.word_at(at),
+        }
+    }
+
+    fn put(self, row: &mut Row, value: u16) {
+        match (self.unit, self.base) {
+            (Unit::Byte, Base::Hexadecimal) => row.put_hex(value, 2),
+            (Unit::Byte, Base::Decimal) => row.put_decimal(value, 3),
+            (Unit::Word, Base::Hexadecimal) => row.put_hex(value, 4),
+            (Unit::Word, Base::Decimal) => row.put_decimal(value, 5),
+        }
+    }
+}
+
+// The bytes, or words, of a row.
+fn cells(row: &mut Row, form: Form, view: View, at: u16) {
+    for i in (0..16).step_by(form.step()) {
+        row.put(b' ');
+        form.put(row, form.value(view, sums::plus(at, i)));
+    }
 }
 
 fn character(b: u8) -> u8 {
@@ -64,89 +77,65 @@ fn character(b: u8) -> u8 {
     }
 }
 
-fn characters(row: &mut [u8], from: usize, v: Devices, ram: &[u8], at: u16) -> usize {
-    let mut p = rows::put(row, from, b' ');
-    p = rows::put(row, p, b' ');
-    let mut i: u16 = 0;
-    while i < 16 {
-        p = rows::put(row, p, character(byte_at(v, ram, at, i)));
-        i += 1;
+fn characters(row: &mut Row, view: View, at: u16) {
+    row.put_all(b"  ");
+    for i in 0..16 {
+        row.put(character(view.byte_at(sums::plus(at, i))));
     }
-    p
 }
 
 // The bytes or words, the characters beside bytes in hexadecimal, and what of them is protected.
-fn one_row(rt: &impl Print, f: Form, state: &[u16; 32], ram: &[u8], at: u16) {
-    let v = parts::devices(state);
+fn one_row(rt: &impl Print, form: Form, view: View, at: u16) {
     let mut room = [b' '; 96];
-    let row: &mut [u8] = &mut room;
-    let p = rows::put_hex(row, 0, at, 4);
-    let mut q = cells(row, p, f, v, ram, at);
-    if !f.is_words & !f.is_decimal {
-        q = characters(row, q, v, ram, at);
+    let mut row = Row::new(&mut room);
+    row.put_hex(at, 4);
+    cells(&mut row, form, view, at);
+    if let (Unit::Byte, Base::Hexadecimal) = (form.unit, form.base) {
+        characters(&mut row, view, at);
     }
-    q = protection::put(row, q, state, ram.len(), at);
-    let r = rows::put(row, q, b'\n');
-    rows::write(rt, row, r);
+    protection::put(&mut row, view, at);
+    row.put(b'\n');
+    row.write(rt);
 }
 
 // So many rows; where the next one starts.
-fn all_rows(rt: &impl Print, f: Form, state: &[u16; 32], ram: &[u8], from: u16, n: usize) -> u16 {
+fn all_rows(rt: &impl Print, form: Form, view: View, from: u16, n: usize) -> u16 {
     let mut at = from;
-    let mut i: usize = 0;
-    while i < n {
-        one_row(rt, f, state, ram, at);
+    for _ in 0..n {
+        one_row(rt, form, view, at);
         at = sums::plus(at, 16);
-        i += 1;
     }
     at
 }
 
 // "Zero `SIZE` means the whole address space, that is, 65536 bytes."
 fn size_of(value: u16) -> usize {
-    if value == 0 {
-        return 65536;
+    match value {
+        0 => 65536,
+        _ => value as usize,
     }
-    value as usize
 }
 
 // Without an address a dump goes on where the last one ended, with its size.
-fn size_asked(last: Spot, a: values::Taken, n: values::Taken) -> usize {
-    if n.is_given {
-        return size_of(n.value);
+fn size_asked(last: Spot, at: Option<u16>, size: Option<u16>) -> usize {
+    match (at, size) {
+        (_, Some(size)) => size_of(size),
+        (Some(_), None) => 16,
+        (None, None) => last.size,
     }
-    if a.is_given {
-        return 16;
-    }
-    last.size
-}
-
-fn rows_of(size: usize) -> usize {
-    if size % 16 == 0 {
-        return size / 16;
-    }
-    size / 16 + 1
 }
 
 // dump [ADDR [SIZE]]: the bytes are rounded up to whole rows. The answer is where the next dump starts.
 pub fn dump(
     rt: &impl Print,
     last: Spot,
-    f: Form,
-    state: &[u16; 32],
-    ram: &[u8],
+    form: Form,
+    view: View,
     line: &[u8],
-    at: usize,
-) -> Spot {
-    let a = values::number(rt, line, at, last.at);
-    if a.is_bad {
-        return last;
-    }
-    let n = values::only(rt, line, a.to, 0);
-    if n.is_bad {
-        return last;
-    }
-    let size = size_asked(last, a, n);
-    let next = all_rows(rt, f, state, ram, a.value, rows_of(size));
-    Spot { at: next, size }
+) -> Result<Spot, Said> {
+    let (at, rest) = values::number(rt, line)?;
+    let asked = values::only(rt, rest)?;
+    let size = size_asked(last, at, asked);
+    let next = all_rows(rt, form, view, at.unwrap_or(last.at), size.div_ceil(16));
+    Ok(Spot { at: next, size })
 }

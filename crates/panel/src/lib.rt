@@ -9,3 +9,4 @@ pub mod protection;
 pub mod refusals;
 pub mod registers;
 pub mod status;
+pub mod view;

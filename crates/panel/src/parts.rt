@@ -1,41 +1,137 @@
-// The state by its parts, as a person names them. It is held as the 32 words that the calls over the boundary work on; 0 to 15 are the registers, 16 to 31
-// csr0 to csr15, 32 the clock, 33 RXD, 34 TXD, 35 R, 36 T, 37 the halted mark.
-use bus::state::Devices;
-use console::texts;
+// The state by its parts, as a person names them. It is held as the 32 words that the calls over the boundary work on.
+use bus::state::{Devices, Stretch};
 use names::register;
+use names::register::{Csr, Reg};
 
-pub const PARTS: u8 = 38;
-
-// The first part that is a status register, and the first that is none again.
-pub const CSR: u8 = 16;
-
-pub const BOARD: u8 = 32;
-
-pub const CLOCK: u8 = 32;
-
-pub const R: u8 = 35;
-
-pub const T: u8 = 36;
-
-fn word(state: &[u16; 32], n: u8) -> u16 {
-    let i = n as usize;
-    if i < 32 {
-        return state[i];
-    }
-    0
+// The registers and the status registers, the clock's counter, the keyboard's registers and ready bits, and the halted mark.
+#[derive(Clone, Copy)]
+pub enum Part {
+    Register(Reg),
+    Status(Csr),
+    Clock,
+    Rxd,
+    Txd,
+    R,
+    T,
+    Halted,
 }
 
-// What a part holds; csr6 to csr15 read 0.
-pub fn value(state: &[u16; 32], n: u8) -> u16 {
-    match n {
-        0..=21 => word(state, n),
-        32 => word(state, 22),
-        33 => word(state, 23) % 256,
-        34 => word(state, 23) / 256,
-        35 => word(state, 24) % 2,
-        36 => word(state, 24) / 2 % 2,
-        37 => word(state, 24) / 4 % 2,
+// All parts, in the order in which they are shown.
+pub static ALL: [Part; 38] = [
+    Part::Register(Reg { number: 0 }),
+    Part::Register(Reg { number: 1 }),
+    Part::Register(Reg { number: 2 }),
+    Part::Register(Reg { number: 3 }),
+    Part::Register(Reg { number: 4 }),
+    Part::Register(Reg { number: 5 }),
+    Part::Register(Reg { number: 6 }),
+    Part::Register(Reg { number: 7 }),
+    Part::Register(Reg { number: 8 }),
+    Part::Register(Reg { number: 9 }),
+    Part::Register(Reg { number: 10 }),
+    Part::Register(Reg::SP),
+    Part::Register(Reg::CA),
+    Part::Register(Reg::IA),
+    Part::Register(Reg::F),
+    Part::Register(Reg::PC),
+    Part::Status(Csr { number: 0 }),
+    Part::Status(Csr { number: 1 }),
+    Part::Status(Csr { number: 2 }),
+    Part::Status(Csr { number: 3 }),
+    Part::Status(Csr { number: 4 }),
+    Part::Status(Csr { number: 5 }),
+    Part::Status(Csr { number: 6 }),
+    Part::Status(Csr { number: 7 }),
+    Part::Status(Csr { number: 8 }),
+    Part::Status(Csr { number: 9 }),
+    Part::Status(Csr { number: 10 }),
+    Part::Status(Csr { number: 11 }),
+    Part::Status(Csr { number: 12 }),
+    Part::Status(Csr { number: 13 }),
+    Part::Status(Csr { number: 14 }),
+    Part::Status(Csr { number: 15 }),
+    Part::Clock,
+    Part::Rxd,
+    Part::Txd,
+    Part::R,
+    Part::T,
+    Part::Halted,
+];
+
+pub fn registers() -> &'static [Part] {
+    &ALL[..16]
+}
+
+pub fn status_registers() -> &'static [Part] {
+    &ALL[16..32]
+}
+
+// The devices and the halted mark.
+pub fn board() -> &'static [Part] {
+    &ALL[32..]
+}
+
+static REGISTERS: [&[u8]; 16] = [
+    b"r0", b"r1", b"r2", b"r3", b"r4", b"r5", b"r6", b"r7", b"r8", b"r9", b"r10", b"sp", b"ca",
+    b"ia", b"f", b"pc",
+];
+
+static STATUS_REGISTERS: [&[u8]; 16] = [
+    b"csr0", b"csr1", b"csr2", b"csr3", b"csr4", b"csr5", b"csr6", b"csr7", b"csr8", b"csr9",
+    b"csr10", b"csr11", b"csr12", b"csr13", b"csr14", b"csr15",
+];
+
+fn name_in(names: &[&'static [u8]], number: u8) -> &'static [u8] {
+    names.get(number as usize).copied().unwrap_or(b"")
+}
+
+fn word(state: &[u16; 32], n: usize) -> u16 {
+    state.get(n).copied().unwrap_or(0)
+}
+
+// csr6 to csr15 read 0.
+fn status(state: &[u16; 32], number: u8) -> u16 {
+    match number {
+        0..=5 => word(state, 16 + number as usize),
         _ => 0,
+    }
+}
+
+impl Part {
+    // What the part holds.
+    pub fn value(self, state: &[u16; 32]) -> u16 {
+        match self {
+            Part::Register(register) => word(state, register.number as usize),
+            Part::Status(csr) => status(state, csr.number),
+            Part::Clock => word(state, 22),
+            Part::Rxd => word(state, 23) % 256,
+            Part::Txd => word(state, 23) / 256,
+            Part::R => word(state, 24) % 2,
+            Part::T => word(state, 24) / 2 % 2,
+            Part::Halted => word(state, 24) / 4 % 2,
+        }
+    }
+
+    pub fn name(self) -> &'static [u8] {
+        match self {
+            Part::Register(register) => name_in(&REGISTERS, register.number),
+            Part::Status(csr) => name_in(&STATUS_REGISTERS, csr.number),
+            Part::Clock => b"clock",
+            Part::Rxd => b"RXD",
+            Part::Txd => b"TXD",
+            Part::R => b"R",
+            Part::T => b"T",
+            Part::Halted => b"halted",
+        }
+    }
+
+    // The digits that it is shown with.
+    pub fn width(self) -> usize {
+        match self {
+            Part::Register(_) | Part::Status(_) | Part::Clock => 4,
+            Part::Rxd | Part::Txd => 2,
+            Part::R | Part::T | Part::Halted => 1,
+        }
     }
 }
 
@@ -49,77 +145,24 @@ pub fn f(state: &[u16; 32]) -> u16 {
 
 // How many records are held.
 pub fn held(state: &[u16; 32]) -> u16 {
-    word(state, 26)
+    state[26]
 }
 
 // The devices, by which memory is read as the processor reads it.
 pub fn devices(state: &[u16; 32]) -> Devices {
     Devices {
-        clock: value(state, 32),
-        rxd: (value(state, 33) % 256) as u8,
-        txd: (value(state, 34) % 256) as u8,
-        r: value(state, 35) == 1,
-        t: value(state, 36) == 1,
+        clock: Part::Clock.value(state),
+        rxd: (Part::Rxd.value(state) % 256) as u8,
+        txd: (Part::Txd.value(state) % 256) as u8,
+        r: Part::R.value(state) == 1,
+        t: Part::T.value(state) == 1,
     }
 }
 
-// A part's name, written; how long it is.
-pub fn name(rt: &impl Print, n: u8) -> usize {
-    texts::show(
-        rt,
-        b"r0
-r1
-r2
-r3
-r4
-r5
-r6
-r7
-r8
-r9
-r10
-sp
-ca
-ia
-f
-pc
-csr0
-csr1
-csr2
-csr3
-csr4
-csr5
-csr6
-csr7
-csr8
-csr9
-csr10
-csr11
-csr12
-csr13
-csr14
-csr15
-clock
-RXD
-TXD
-R
-T
-halted
-",
-        n,
-    )
-}
-
-// The digits that a part is shown with.
-pub fn width(n: u8) -> usize {
-    match n {
-        0..=32 => 4,
-        33 | 34 => 2,
-        _ => 1,
+// The first and the last protected address.
+pub fn stretch(state: &[u16; 32]) -> Stretch {
+    Stretch {
+        first: state[30],
+        last: state[31],
     }
-}
-
-// What a part holds, in its digits.
-pub fn show(rt: &impl Print, state: &[u16; 32], n: u8) {
-    report::hex(rt, value(state, n) as u64, width(n));
 }

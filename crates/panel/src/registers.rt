@@ -1,116 +1,91 @@
 // Registers, status registers and devices, shown; and found by their names.
+use crate::parts::Part;
+use crate::view::View;
 use crate::{parts, status};
 use console::{values, words};
 use lexis::numbers;
-use lexis::numbers::Read;
-use names::register::{Csr, FoundCsr, FoundReg, Reg};
+use names::register::{Csr, Reg};
 
-// A number below 16, or 16 where the word is no such number.
-fn index(word: &[u8]) -> u8 {
-    let r = numbers::unsigned(word);
-    match r {
-        Read::Is(v) => {
-            if v.bits < 16 {
-                return v.bits as u8;
-            }
-            16
-        }
-        Read::Bad | Read::TooLarge => 16,
-    }
+// A number, as an index below 16 is written.
+fn index(word: &[u8]) -> Option<u8> {
+    let value = numbers::unsigned(word).ok()?;
+    u8::try_from(value.bits).ok()
 }
 
-// A register's number by its index, name or alias; 16 where there is none.
-pub fn register_number(word: &[u8]) -> u8 {
-    let f = Reg::from_name(word);
-    match f {
-        FoundReg::Is(r) => r.number,
-        FoundReg::Unknown => index(word),
-    }
+// A register by its index, name or alias.
+pub fn register(word: &[u8]) -> Option<Reg> {
+    Reg::from_name(word).or_else(|| Reg::from_number(index(word)?))
 }
 
-fn csr_number(word: &[u8]) -> u8 {
-    let f = Csr::from_name(word);
-    match f {
-        FoundCsr::Is(c) => c.number,
-        FoundCsr::Unknown => index(word),
-    }
+fn status_register(word: &[u8]) -> Option<Csr> {
+    Csr::from_name(word).or_else(|| Csr::from_number(index(word)?))
 }
 
-// Blanks up to a width, of which so much is used.
-fn fill(rt: &impl Print, used: usize, width: usize) {
-    let mut i = used;
-    while i < width {
-        report::space(rt);
-        i += 1;
-    }
+fn value(rt: &impl Print, view: View, part: Part) {
+    report::hex(rt, view.part(part) as u64, part.width());
 }
 
 // A part's name, blanks up to a width, and what it holds.
-fn one(rt: &impl Print, state: &[u16; 32], n: u8, width: usize) {
-    fill(rt, parts::name(rt, n), width);
-    parts::show(rt, state, n);
-}
-
-// After the fourth of a row a line's end, else two blanks.
-fn between(rt: &impl Print, n: u8) {
-    if n % 4 == 3 {
-        report::end(rt);
-        return;
+fn one(rt: &impl Print, view: View, part: Part, width: usize) {
+    let name = part.name();
+    report::text(rt, name);
+    for _ in name.len()..width {
+        report::space(rt);
     }
-    report::text(rt, b"  ");
+    value(rt, view, part);
 }
 
-// Parts in rows of four, up to one.
-fn table(rt: &impl Print, state: &[u16; 32], first: u8, end: u8, width: usize) {
-    let mut n = first;
-    while n < end {
-        one(rt, state, n, width);
-        between(rt, n);
-        n += 1;
+fn row(rt: &impl Print, view: View, parts: &[Part], width: usize) {
+    for (i, &part) in parts.iter().enumerate() {
+        if 0 < i {
+            report::text(rt, b"  ");
+        }
+        one(rt, view, part, width);
+    }
+    report::end(rt);
+}
+
+// Parts in rows of four.
+fn table(rt: &impl Print, view: View, parts: &[Part], width: usize) {
+    for four in parts.chunks(4) {
+        row(rt, view, four, width);
     }
 }
 
 // The devices and the halted mark.
-fn board(rt: &impl Print, state: &[u16; 32]) {
-    let mut n = parts::BOARD;
-    while n < parts::PARTS {
+fn board(rt: &impl Print, view: View) {
+    for &part in parts::board() {
         report::text(rt, b"  ");
-        parts::name(rt, n);
+        report::text(rt, part.name());
         report::space(rt);
-        parts::show(rt, state, n);
-        n += 1;
+        value(rt, view, part);
     }
     report::end(rt);
 }
 
-pub fn show_register(rt: &impl Print, state: &[u16; 32], n: u8) {
-    one(rt, state, n, 4);
-    report::end(rt);
+pub fn show_register(rt: &impl Print, view: View, register: Reg) {
+    row(rt, view, &[Part::Register(register)], 4);
 }
 
 // All registers, and what the debugger shows beside them: the flags, the devices, the halted mark.
-pub fn show_registers(rt: &impl Print, state: &[u16; 32]) {
-    table(rt, state, 0, parts::CSR, 4);
+pub fn show_registers(rt: &impl Print, view: View) {
+    table(rt, view, parts::registers(), 4);
     report::text(rt, b"flags ");
-    status::flags(rt, parts::f(state));
-    board(rt, state);
+    status::flags(rt, view.f());
+    board(rt, view);
 }
 
 // csr [NAME]
-pub fn csr(rt: &impl Print, state: &[u16; 32], line: &[u8], at: usize) {
-    let p = words::next(line, at);
-    if p.from == p.to {
-        table(rt, state, parts::CSR, parts::BOARD, 6);
+pub fn csr(rt: &impl Print, view: View, line: &[u8]) {
+    let Some((word, rest)) = words::next(line) else {
+        table(rt, view, parts::status_registers(), 6);
         return;
-    }
-    let word = words::cut(line, p);
-    let n = csr_number(word);
-    if 15 < n {
+    };
+    let Some(csr) = status_register(word) else {
         values::complain(rt, b"no such status register", word);
         return;
-    }
-    if values::is_end(rt, line, p.to) {
-        one(rt, state, parts::CSR + n, 6);
-        report::end(rt);
+    };
+    if values::is_end(rt, rest) {
+        row(rt, view, &[Part::Status(csr)], 6);
     }
 }

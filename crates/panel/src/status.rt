@@ -1,8 +1,7 @@
 // The line after step, back, execute and rexecute: where the machine stands.
-use crate::parts;
-use bus::address;
+use crate::view::View;
+use console::words;
 use text::list;
-use text::list::Listed;
 
 fn flag(bit: u16, letter: u8) -> u8 {
     if bit % 2 == 1 { letter } else { b'-' }
@@ -30,25 +29,10 @@ pub fn flags(rt: &impl Print, f: u16) {
 // A word as an instruction; a question mark where its opcode gives reason 2.
 pub fn instruction(rt: &impl Print, w: u16) {
     let mut room = [0u8; 16];
-    let l = list::list(w, &mut room);
-    match l {
-        Listed::Text(n) => {
-            if n <= 16 {
-                report::text(rt, &room[0..n]);
-            }
-        }
-        Listed::Reason2 | Listed::NoRoom => report::text(rt, b"?"),
+    match list::list(w, &mut room) {
+        Ok(n) => report::text(rt, words::front(&room, n)),
+        Err(_) => report::text(rt, b"?"),
     }
-}
-
-// The word at an address, as the processor reads it.
-pub fn word_at(state: &[u16; 32], ram: &[u8], at: u16) -> u16 {
-    address::read_word(parts::devices(state), ram, at)
-}
-
-// The byte at an address, as the processor reads it.
-pub fn byte_at(state: &[u16; 32], ram: &[u8], at: u16) -> u8 {
-    address::read_byte(parts::devices(state), ram, at)
 }
 
 fn bar(rt: &impl Print) {
@@ -56,85 +40,94 @@ fn bar(rt: &impl Print) {
 }
 
 // The address, the instruction there, and the flags.
-pub fn place(rt: &impl Print, state: &[u16; 32], ram: &[u8]) {
-    let pc = parts::pc(state);
+pub fn place(rt: &impl Print, view: View) {
+    let pc = view.pc();
     report::text(rt, b"pc ");
     report::hex(rt, pc as u64, 4);
     bar(rt);
-    instruction(rt, word_at(state, ram, pc));
+    instruction(rt, view.word_at(pc));
     bar(rt);
-    flags(rt, parts::f(state));
+    flags(rt, view.f());
     bar(rt);
 }
 
-pub fn count(rt: &impl Print, n: u64, one: &[u8], more: &[u8]) {
-    report::decimal(rt, n);
-    report::space(rt);
-    if n == 1 {
-        report::text(rt, one);
-    } else {
-        report::text(rt, more);
+// What is counted, by its name where it is one and where it is another number.
+#[derive(Clone, Copy)]
+pub struct Noun {
+    pub one: &'static [u8],
+    pub more: &'static [u8],
+}
+
+impl Noun {
+    // A number of it.
+    pub fn count(self, rt: &impl Print, n: u64) {
+        report::decimal(rt, n);
+        report::space(rt);
+        match n {
+            1 => report::text(rt, self.one),
+            _ => report::text(rt, self.more),
+        }
     }
+
+    // The same, and of how many that were asked for, where it is fewer.
+    fn count_of(self, rt: &impl Print, n: u64, asked: Option<u64>) {
+        match asked {
+            Some(of) if n < of => {
+                report::decimal(rt, n);
+                report::text(rt, b" of ");
+                self.count(rt, of);
+            }
+            _ => self.count(rt, n),
+        }
+    }
+}
+
+pub const STEPS: Noun = Noun {
+    one: b"step",
+    more: b"steps",
+};
+
+pub const STEPS_BACK: Noun = Noun {
+    one: b"step back",
+    more: b"steps back",
+};
+
+const BUS_BYTES: Noun = Noun {
+    one: b"bus byte",
+    more: b"bus bytes",
+};
+
+const RECORDS_HELD: Noun = Noun {
+    one: b"record held\n",
+    more: b"records held\n",
+};
+
+// Steps, or steps back, that were done: how many, of how many where a number was asked for; their bus bytes, if they moved bytes; why they stopped, if that is told.
+#[derive(Clone, Copy)]
+pub struct Walk<'a> {
+    pub noun: Noun,
+    pub steps: u64,
+    pub asked: Option<u64>,
+    pub bus: Option<u64>,
+    pub cause: Option<&'a [u8]>,
 }
 
 fn comma(rt: &impl Print) {
     report::text(rt, b", ");
 }
 
-fn held(rt: &impl Print, state: &[u16; 32]) {
+// Where the machine stands after steps, and what is told of them.
+pub fn after(rt: &impl Print, view: View, walk: Walk) {
+    place(rt, view);
+    walk.noun.count_of(rt, walk.steps, walk.asked);
     comma(rt);
-    count(
-        rt,
-        parts::held(state) as u64,
-        b"record held\n",
-        b"records held\n",
-    );
-}
-
-// How many of those asked for.
-fn count_of(rt: &impl Print, n: u64, of: u64, one: &[u8], more: &[u8]) {
-    if n < of {
-        report::decimal(rt, n);
-        report::text(rt, b" of ");
-        count(rt, of, one, more);
-        return;
-    }
-    count(rt, n, one, more);
-}
-
-// After steps: how many, of how many that were asked for; their bus bytes, and why they stopped.
-pub fn after_steps(
-    rt: &impl Print,
-    state: &[u16; 32],
-    ram: &[u8],
-    steps: u64,
-    of: u64,
-    bus: u64,
-    cause: &[u8],
-) {
-    place(rt, state, ram);
-    count_of(rt, steps, of, b"step", b"steps");
-    comma(rt);
-    count(rt, bus, b"bus byte", b"bus bytes");
-    comma(rt);
-    report::text(rt, cause);
-    held(rt, state);
-}
-
-// The same of steps back, which move no byte over the bus; those of back have no cause either.
-pub fn after_back(
-    rt: &impl Print,
-    state: &[u16; 32],
-    ram: &[u8],
-    steps: u64,
-    of: u64,
-    cause: &[u8],
-) {
-    place(rt, state, ram);
-    count_of(rt, steps, of, b"step back", b"steps back");
-    if 0 < cause.len() {
+    if let Some(n) = walk.bus {
+        BUS_BYTES.count(rt, n);
         comma(rt);
-        report::text(rt, cause);
     }
-    held(rt, state);
+    if let Some(cause) = walk.cause {
+        report::text(rt, cause);
+        comma(rt);
+    }
+    RECORDS_HELD.count(rt, view.held() as u64);
 }
