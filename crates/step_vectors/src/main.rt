@@ -38,7 +38,7 @@ fn every_word(table: &[u8; 256], c: Cpu, ram: &mut [u8]) -> u64 {
     for word in 0..=u16::MAX {
         h = one_word(h, table, c, ram, word);
     }
-    digest::absorb_bytes(h, ram)
+    report::absorb_bytes(h, ram)
 }
 
 fn one_state(table: &[u8; 256], state: &[u8], is_read: bool, buffer: &mut [u8]) -> u64 {
