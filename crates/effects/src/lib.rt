@@ -67,6 +67,6 @@ pub fn register_set(c: Cpu, register: Reg, content: u16) -> Cpu
     let csrs = c.csrs;
     let revived = choice::both(number == F, !bits::bit(content, 9));
     let mut board = c.board;
-    board.halted = choice::pick_bool(revived, false, board.halted);
+    board.halted = choice::pick(revived, false, board.halted);
     Cpu { regs, csrs, board }
 }

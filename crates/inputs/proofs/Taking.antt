@@ -3,6 +3,7 @@ use Prim.Native.Nat.{ℕ, ◌≤◌, ◌<◌}
 use mathlib.Core.Path.{◌≡◌, refl, sym, ◌∙◌, ap}
 use mathlib.Core.Bool.{Bool, true, false, cond}
 use mathlib.Core.List.{List}
+use Rattle.std.specs.Prelude.{Option, Some, None}
 use native.Mathlib.Omega.{arith}
 use borrow.Author.Tests.{leb-true, leb-false}
 use lib.Dec.{leb}
@@ -11,7 +12,6 @@ use Rattle.word.specs.Word.{join_at}
 use Rattle.word.specs.Memory.{byte_in}
 use Rattle.names.specs.Names.{reg_numbered}
 use Rattle.names.specs.declared.register.Reg.{Reg}
-use Rattle.names.specs.declared.register.FoundReg.{FoundReg}
 use Rattle.bus.specs.declared.state.Cpu.{Cpu}
 use Rattle.history.specs.Trace.{gives, no_run, Answer, answers, give}
 use Rattle.history.specs.Ring.{Ring, ring_of, pushed, slots}
@@ -48,21 +48,18 @@ module _ (m : MachineT) (ram ws : List ℕ) where
       ∙ ap (λ (y : Ring). answers 0 0 0 no_run (at m.cpu (set ram a x) y)) (sym (rw o at j))
 
 -- a register found by its number
-number_of : FoundReg → ℕ
-number_of (FoundReg.Is r) = r.number
-number_of FoundReg.Unknown = 0
-
-pub found : (n : ℕ) (x : Reg) (r : FoundReg) → r ≡ reg_numbered n → r ≡ FoundReg.Is x → (n < 16) × (x.number ≡ n)
-unfolding number_of
-found n x r e h = go (leb n 15) refl (sym e ∙ h)
+pub found : (n : ℕ) (x : Reg) → Some x ≡ reg_numbered n → (n < 16) × (x.number ≡ n)
+found n x e = go (leb n 15) refl e
   where
-    go : (t : Bool) → leb n 15 ≡ t → cond t (FoundReg.Is (record { number = n })) FoundReg.Unknown ≡ FoundReg.Is x → (n < 16) × (x.number ≡ n)
-    go true l z = (omega (arith, leb-true n 15 l), sym (ap number_of z))
+    go : (t : Bool) → leb n 15 ≡ t → Some x ≡ cond t (Some (record { number = n })) None → (n < 16) × (x.number ≡ n)
+    go true l z =
+        let q : ◌≡◌ {A = Reg} x (record { number = n }) = cc in
+        (omega (arith, leb-true n 15 l), ap (λ (r : Reg). r.number) q)
     go false l z = let y : ◌≡◌ {A = ℕ} 0 1 = cc in absurd (omega arith)
 
-pub not_found : (n : ℕ) (r : FoundReg) → r ≡ reg_numbered n → r ≡ FoundReg.Unknown → 16 ≤ n
-not_found n r e h = go (leb n 15) refl (sym e ∙ h)
+pub not_found : (n : ℕ) → None ≡ reg_numbered n → 16 ≤ n
+not_found n e = go (leb n 15) refl e
   where
-    go : (t : Bool) → leb n 15 ≡ t → cond t (FoundReg.Is (record { number = n })) FoundReg.Unknown ≡ FoundReg.Unknown → 16 ≤ n
+    go : (t : Bool) → leb n 15 ≡ t → ◌≡◌ {A = Option Reg} None (cond t (Some (record { number = n })) None) → 16 ≤ n
     go true l z = let y : ◌≡◌ {A = ℕ} 0 1 = cc in absurd (omega arith)
     go false l z = omega (arith, leb-false n 15 l)

@@ -13,7 +13,7 @@ use bus::state::Cpu;
 use calls::checks;
 use calls::state::{Answer, Machine, Refusal, Reply};
 use history::Place;
-use names::register::{FoundReg, Reg};
+use names::register::Reg;
 use word::halves;
 
 // The record of an input, from the state before it.
@@ -67,6 +67,7 @@ pub fn receive(m: Machine, journal: &mut [u16], byte: u8) -> Reply
     accept(m, effects::received(m.cpu, byte), journal)
 }
 
+// Of `receive` only the question and the call of `accept` are alike: a function for both would need a contract longer than the two bodies.
 pub fn sent(m: Machine, journal: &mut [u16]) -> Reply
     ensures { (ram : List ℕ) → Acts (give Input.sent) m ram journal.old result ram journal.new }
 {
@@ -79,13 +80,10 @@ pub fn sent(m: Machine, journal: &mut [u16]) -> Reply
 pub fn set_register(m: Machine, journal: &mut [u16], number: u8, content: u16) -> Reply
     ensures { (ram : List ℕ) → Acts (give (Input.set_register number content)) m ram journal.old result ram journal.new }
 {
-    let found = Reg::from_number(number);
-    match found {
-        FoundReg::Is(register) => {
-            accept(m, effects::register_set(m.cpu, register, content), journal)
-        }
-        FoundReg::Unknown => checks::refused(m, Refusal::NoRegister),
-    }
+    let Some(register) = Reg::from_number(number) else {
+        return checks::refused(m, Refusal::NoRegister);
+    };
+    accept(m, effects::register_set(m.cpu, register, content), journal)
 }
 
 pub fn poke(m: Machine, ram: &mut [u8], journal: &mut [u16], address: u16, byte: u8) -> Reply

@@ -3,4 +3,4 @@ use Rattle.effects.proofs.register_set.Goals as goal
 
 pub returns : goal.returns
 unfolding register_set
-returns c = simp (c.pick_bool.ensures, c.both-revived.ensures, c.bit.ensures, c.written-regs.ensures)
+returns c = simp (c.pick.ensures, c.both-revived.ensures, c.bit.ensures, c.written-regs.ensures)

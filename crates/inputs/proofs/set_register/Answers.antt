@@ -6,14 +6,14 @@ use Rattle.calls.proofs.Answering.{denied}
 use Rattle.inputs.proofs.Taking.{taken, found, not_found}
 use Rattle.inputs.proofs.set_register.Goals as goal
 
-pub returns-in-Is : goal.returns-in-Is
-returns-in-Is c ram = let a = c.args in
-    let f = found a.number _ _ c.from_number-found.ensures c.in-Is.is in
+pub returns : goal.returns
+returns c ram = let a = c.args in
+    let f = found a.number _ c.in-Some.ensures in
     taken a.m ram a.journal.now (set_register a.number a.content) _ _ refl
     (sets (box a.m.cpu ram) _ a.number a.content f.0 (c.register_set.ensures ∙ rw f.1)) (c.accept.ensures ram)
 
-pub returns-in-Unknown : goal.returns-in-Unknown
-returns-in-Unknown c ram = let a = c.args in
+pub returns-in_default : goal.returns-in_default
+returns-in_default c ram = let a = c.args in
     denied a.m ram a.journal.now (set_register a.number a.content) Refusal.NoRegister _
-    (sets-not (box a.m.cpu ram) a.number a.content (not_found a.number _ c.from_number-found.ensures c.in-Unknown.is))
+    (sets-not (box a.m.cpu ram) a.number a.content (not_found a.number c.in_default.ensures))
     c.refused.ensures
