@@ -1,69 +1,33 @@
 // The words of a section: lines of four hexadecimal digits in front of it.
-ghost use Rattle.std.specs.Prelude.{◌≡◌, ◌≤◌, length};
+ghost use Rattle.std.specs.Prelude.{◌≤◌, length};
 
-// A digit's number; 16 where it is none.
-fn digit(b: u8) -> u16
-    ensures { result ≤ 16 }
+// Small letters only.
+fn digit(b: u8) -> Option<u16> {
+    match b {
+        b'0'..=b'9' => Some(b as u16 - 48),
+        b'a'..=b'f' => Some(b as u16 - 87),
+        _ => None,
+    }
+}
+
+// The word of four digits that a line begins with.
+fn word(line: &[u8]) -> Option<u16> {
+    let [a, b, c, d, ..] = *line else {
+        return None;
+    };
+    Some(digit(a)? << 12 | digit(b)? << 8 | digit(c)? << 4 | digit(d)?)
+}
+
+// The words in front of the input, as many as there is room for; how many there are.
+pub fn read(input: &[u8], room: &mut [u16]) -> usize
+    ensures { result ≤ length room.new }
 {
-    if b < 48 {
-        return 16;
+    let mut lines = input.chunks(5);
+    for (n, place) in room.iter_mut().enumerate() {
+        let Some(word) = lines.next().and_then(|line| word(line)) else {
+            return n;
+        };
+        *place = word;
     }
-    if b < 58 {
-        return b as u16 - 48;
-    }
-    if b < 97 {
-        return 16;
-    }
-    if b < 103 {
-        return b as u16 - 87;
-    }
-    16
-}
-
-fn digit_at(input: &[u8], at: usize) -> u16
-    ensures { result ≤ 16 }
-{
-    if at < input.len() {
-        digit(input[at])
-    } else {
-        16
-    }
-}
-
-// Whether line n of the input is a word.
-fn is_word(input: &[u8], n: u8) -> bool {
-    let at = n as usize * 5;
-    (digit_at(input, at) < 16)
-        & (digit_at(input, at + 1) < 16)
-        & (digit_at(input, at + 2) < 16)
-        & (digit_at(input, at + 3) < 16)
-}
-
-fn word_at(input: &[u8], n: u8) -> u16 {
-    let at = n as usize * 5;
-    let high = digit_at(input, at) % 16 * 16 + digit_at(input, at + 1) % 16;
-    let low = digit_at(input, at + 2) % 16 * 16 + digit_at(input, at + 3) % 16;
-    high * 256 + low
-}
-
-#[derive(Drop)]
-pub struct Grid {
-    pub words: [u16; 256],
-    pub count: u8,
-}
-
-// The words in front of the input, at most 255.
-pub fn read(input: &[u8]) -> Grid
-    ensures { 256 ≡ length result.words }
-{
-    let mut words = [0u16; 256];
-    let mut n: u8 = 0;
-    while n < 255 {
-        if !is_word(input, n) {
-            return Grid { words, count: n };
-        }
-        words[n as usize] = word_at(input, n);
-        n += 1;
-    }
-    Grid { words, count: n }
+    room.len()
 }

@@ -2,12 +2,10 @@
 use alu::AluOp;
 
 fn shifted(op: AluOp, count: u16) -> u64 {
-    let mut digest: u64 = 1;
-    for d in 0..=65535u16 {
+    (0..=u16::MAX).fold(1, |digest, d| {
         let a = alu::compute(op, d, count);
-        digest = report::absorb(report::absorb(digest, a.value), a.flags);
-    }
-    digest
+        report::absorb(report::absorb(digest, a.value), a.flags)
+    })
 }
 
 fn row(rt: &impl Print, name: &[u8], op: AluOp, count: u16) {
