@@ -287,6 +287,7 @@ pub fn read(rt: &(impl Print + Env)) -> Option<Settings> {
         image: None,
     };
     let n = count(rt);
+    // A step is one to three arguments long, as the option says, so that no `for` is plainer.
     let mut i: usize = 1;
     while i < n {
         let given = named(rt, i);

@@ -145,7 +145,8 @@ fn put(quote: u8, text: &[u8], out: &mut [u8], n: usize)
     }
 }
 
-// The characters that stand between two quotes, at the front of the output: how many. On Err the output is as it was.
+// The characters that stand between two quotes, at the front of the output: how many, and no slice of them, since `out_after` speaks of all of the output.
+// On Err it is as it was.
 pub fn read(quote: u8, text: &[u8], out: &mut [u8]) -> Result<usize, Fault>
     ensures value { result ≡ chars_say (meant quote Plain text.now) (length out.old) }
     ensures out_after { out.new ≡ chars_leave (meant quote Plain text.now) out.old }

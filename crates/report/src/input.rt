@@ -7,6 +7,7 @@ use std::io::Read;
 pub fn read_full<R: Read>(from: &mut R, out: &mut [u8]) -> usize
     ensures { result ≤ length out.new }
 {
+    // A step is as long as what a read gives, so that no `for` is plainer.
     let mut done: usize = 0;
     while done < out.len() {
         match from.read(&mut out[done..]) {
