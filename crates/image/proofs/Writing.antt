@@ -1,12 +1,11 @@
 -- The loops over an image: how long its lines are, and what is left to be counted or written.
-use mathlib.Core.Path.{◌≡◌, refl, sym, ◌∙◌}
+use mathlib.Core.Path.{◌≡◌, refl, sym, ap, ◌∙◌}
 use mathlib.Core.Bool.{Bool, true, false, cond}
 use mathlib.Core.List.{List, [], ◌∷◌, ◌++◌}
-use Prim.Native.Nat.{ℕ, suc, ◌+◌, ◌*◌, ◌%◌, ◌<◌, ◌≤◌}
-use native.Mathlib.Nat.{add-zero}
+use Prim.Native.Nat.{ℕ, suc, ◌+◌, ◌-◌, ◌*◌, ◌%◌, ◌<◌, ◌≤◌}
 use native.Mathlib.Omega.{arith}
-use lib.ListN.{length, get_or, drop, length-append, drop_of_length-le}
-use lib.Seq.{sets, drop-cons}
+use lib.ListN.{length, get_or, take, drop, length-append, length-take, length-drop}
+use lib.Seq.{sets, take_all}
 use Rattle.names.specs.Names.{bytes}
 use Rattle.isa.specs.Opcode.{gives_reason2}
 use Rattle.text.specs.Listing.{text_of}
@@ -51,67 +50,83 @@ lines-room a (b ∷ (c ∷ s)) h =
     let m = pair-room a b c (h 0) (h 1) in
     simp length-append (omega arith)
 
--- ---- i bytes of the image are done, and at is the place that their lines go up to
+-- ---- the bytes that are left of the image, and the place that the lines of the others go up to
 
-pub record Counting (a : ℕ) (image : List ℕ) (i at : ℕ) : Type 0 where
-  pub within : i ≤ length image
-  pub place : at + length (lines_of (a + i) (drop i image)) ≡ length (lines_of a image)
+pub record Counting (image rest : List ℕ) (n : ℕ) : Type 0 where
+  pub within : length rest ≤ length image
+  pub place : n + length (lines_of 0 rest) ≡ length (lines_of 0 image)
 
-pub record Writing (out₀ : List ℕ) (a : ℕ) (image : List ℕ) (i at : ℕ) (out : List ℕ) : Type 0 where
-  pub counting : Counting a image i at
+pub record Writing (out₀ : List ℕ) (a : ℕ) (image rest : List ℕ) (address at : ℕ) (out : List ℕ) : Type 0 where
+  pub fits : address + length rest ≡ a + length image
+  pub place : at + length (lines_of address rest) ≡ length (lines_of a image)
   pub kept : length out ≡ length out₀
-  pub bytes : sets out at (lines_of (a + i) (drop i image)) ≡ sets out₀ 0 (lines_of a image)
+  pub bytes : sets out at (lines_of address rest) ≡ sets out₀ 0 (lines_of a image)
 
-pub none_done : (a : ℕ) (image : List ℕ) → Counting a image 0 0
-none_done a image = record { within = omega arith; place = rw (add-zero a) (omega arith) }
+-- the bytes that are left, as patterns take them apart
+abbrev after_two : List ℕ → List ℕ
+after_two s = take (length s - 2) (drop 2 s)
 
-pub none-put : (out₀ : List ℕ) (a : ℕ) (image : List ℕ) → Writing out₀ a image 0 0 out₀
-none-put out₀ a image = record { counting = none_done a image; kept = refl; bytes = rw (add-zero a) }
+two-left : (s : List ℕ) → 2 ≤ length s → s ≡ get_or s 0 0 ∷ get_or s 1 0 ∷ after_two s
+two-left [] h = absurd (omega arith)
+two-left (b ∷ []) h = absurd (omega arith)
+two-left (b ∷ c ∷ s) h = ap (λ (t : List ℕ). b ∷ c ∷ t) (sym (take_all (length (b ∷ c ∷ s) - 2) s (omega arith)))
 
-one_left : (a i : ℕ) (image : List ℕ) → i + 1 ≡ length image → lines_of (a + i) (drop i image) ≡ last_line (a + i) (get_or image i 0)
-one_left a i image e = rw (drop-cons image i 0 (omega arith), drop_of_length-le image {i = suc i} (omega arith))
+one_left : (s : List ℕ) → length s ≡ 1 → s ≡ get_or s 0 0 ∷ []
+one_left [] h = absurd (omega arith)
+one_left (b ∷ []) h = refl
+one_left (b ∷ c ∷ s) h = absurd (omega arith)
 
-two-left : (a i : ℕ) (image : List ℕ) → i + 2 ≤ length image
-    → lines_of (a + i) (drop i image) ≡ pair_line (a + i) (get_or image i 0) (get_or image (i + 1) 0) ++ lines_of (a + (i + 2)) (drop (i + 2) image)
-two-left a i image h =
-    let p : a + i + 2 ≡ a + (i + 2) = omega arith in
-    let q : suc (suc i) ≡ i + 2 = omega arith in
-    let r : suc i ≡ i + 1 = omega arith in
-    rw (drop-cons image i 0 (omega arith), drop-cons image (suc i) 0 (omega arith), p, q, r)
+-- the lines of what is left: those of two bytes and the others, that of one byte, and none
+pub pair_first : (a : ℕ) (s : List ℕ) → 2 ≤ length s → lines_of a s ≡ pair_line a (get_or s 0 0) (get_or s 1 0) ++ lines_of (a + 2) (after_two s)
+pair_first a s h = let e = ap (lines_of a) (two-left s h) in e
 
-module _ (a : ℕ) (image : List ℕ) (i at : ℕ) (k : Counting a image i at) where
-  -- the last byte, the next two, and none: where their lines end
-  pub last_end : i + 1 ≡ length image → at + length (last_line (a + i) (get_or image i 0)) ≡ length (lines_of a image)
-  last_end e = rw (one_left a i image e) at k.place
+pub last-alone : (a : ℕ) (s : List ℕ) → length s ≡ 1 → lines_of a s ≡ last_line a (get_or s 0 0)
+last-alone a s h = ap (lines_of a) (one_left s h)
 
-  pub pair_end : i + 2 ≤ length image
-      → at + length (pair_line (a + i) (get_or image i 0) (get_or image (i + 1) 0)) + length (lines_of (a + (i + 2)) (drop (i + 2) image)) ≡ length (lines_of a image)
+pub none_left : (a : ℕ) (s : List ℕ) → length s ≡ 0 → lines_of a s ≡ []
+none_left a [] h = refl
+none_left a (b ∷ s) h = absurd (omega arith)
+
+module _ (image rest : List ℕ) (n : ℕ) (k : Counting image rest n) where
+  pub pair_end : 2 ≤ length rest → n + length (pair_line 0 (get_or rest 0 0) (get_or rest 1 0)) + length (lines_of 0 (after_two rest)) ≡ length (lines_of 0 image)
   pair_end h =
-      let g = simp length-append at (rw (two-left a i image h) at k.place) in
+      let g = simp length-append at (rw (pair_first 0 rest h) at k.place) in
+      omega (arith, g, lines_long 0 2 (after_two rest))
+
+  pub pair-counted : (m : ℕ) → 2 ≤ length rest → m ≡ length (pair_line 0 (get_or rest 0 0) (get_or rest 1 0)) → Counting image (after_two rest) (n + m)
+  pair-counted m h e = record { within = omega (arith, k.within, length-take {A = ℕ}, length-drop {A = ℕ}); place = omega (arith, pair_end h, e) }
+
+  pub last-counted : length rest ≡ 1 → n + 8 ≡ length (lines_of 0 image)
+  last-counted h = omega (arith, rw (last-alone 0 rest h) at k.place, last-long 0 (get_or rest 0 0))
+
+  pub all-counted : length rest ≡ 0 → n ≡ length (lines_of 0 image)
+  all-counted h = omega (arith, rw (none_left 0 rest h) at k.place)
+
+module _ (out₀ : List ℕ) (a : ℕ) (image rest : List ℕ) (address at : ℕ) (out : List ℕ) (w : Writing out₀ a image rest address at out) where
+  pub last-room : length rest ≡ 1 → at + 8 ≡ length (lines_of a image)
+  last-room h = omega (arith, rw (last-alone address rest h) at w.place, last-long address (get_or rest 0 0))
+
+  pub last-put : (next : ℕ) (left : List ℕ) → length rest ≡ 1 → next ≡ at + length (last_line address (get_or rest 0 0))
+      → left ≡ sets out at (last_line address (get_or rest 0 0)) → (next ≡ length (lines_of a image)) × (left ≡ sets out₀ 0 (lines_of a image))
+  last-put next left h p q = (p ∙ (rw (last-alone address rest h) at w.place), q ∙ (rw (last-alone address rest h) at w.bytes))
+
+  pub pair-room-left : 2 ≤ length rest → at + length (pair_line address (get_or rest 0 0) (get_or rest 1 0)) ≤ length (lines_of a image)
+  pair-room-left h =
+      let g = simp length-append at (rw (pair_first address rest h) at w.place) in
       omega arith
 
-  pub pair-done : (next : ℕ) → i + 2 ≤ length image → next ≡ at + length (pair_line (a + i) (get_or image i 0) (get_or image (i + 1) 0))
-      → Counting a image (i + 2) next
-  pair-done next h p = record { within = h; place = let g = pair_end h in omega arith }
-
-  pub all_done : length image ≤ i → at ≡ length (lines_of a image)
-  all_done h = let g = rw (drop_of_length-le image h) at k.place in omega arith
-
-module _ (out₀ : List ℕ) (a : ℕ) (image : List ℕ) (i at : ℕ) (out : List ℕ) (w : Writing out₀ a image i at out) where
-  pub last-put : (next : ℕ) (left : List ℕ) → i + 1 ≡ length image → next ≡ at + length (last_line (a + i) (get_or image i 0))
-      → left ≡ sets out at (last_line (a + i) (get_or image i 0)) → (next ≡ length (lines_of a image)) × (left ≡ sets out₀ 0 (lines_of a image))
-  last-put next left e p q = (p ∙ last_end a image i at w.counting e, q ∙ (rw (one_left a i image e) at w.bytes))
-
-  pub pair_put : (next : ℕ) (left : List ℕ) → i + 2 ≤ length image → next ≡ at + length (pair_line (a + i) (get_or image i 0) (get_or image (i + 1) 0))
-      → left ≡ sets out at (pair_line (a + i) (get_or image i 0) (get_or image (i + 1) 0)) → length left ≡ length out → Writing out₀ a image (i + 2) next left
+  pub pair_put : (next : ℕ) (left : List ℕ) → 2 ≤ length rest → next ≡ at + length (pair_line address (get_or rest 0 0) (get_or rest 1 0))
+      → left ≡ sets out at (pair_line address (get_or rest 0 0) (get_or rest 1 0)) → length left ≡ length out → Writing out₀ a image (after_two rest) (address + 2) next left
   pair_put next left h p q k =
-      let t : List ℕ = pair_line (a + i) (get_or image i 0) (get_or image (i + 1) 0) in
-      let u : List ℕ = lines_of (a + (i + 2)) (drop (i + 2) image) in
+      let t : List ℕ = pair_line address (get_or rest 0 0) (get_or rest 1 0) in
+      let u : List ℕ = lines_of (address + 2) (after_two rest) in
+      let g = simp length-append at (rw (pair_first address rest h) at w.place) in
       record {
-        counting = pair-done a image i at w.counting next h p;
+        fits = omega (arith, w.fits, length-take {A = ℕ}, length-drop {A = ℕ});
+        place = omega (arith, g, p);
         kept = k ∙ w.kept;
-        bytes = rw (q, p) (sets-append out at t u ∙ (rw (two-left a i image h) at w.bytes));
+        bytes = rw (q, p) (sets-append out at t u ∙ (rw (pair_first address rest h) at w.bytes));
       }
 
-  pub all-put : length image ≤ i → (at ≡ length (lines_of a image)) × (out ≡ sets out₀ 0 (lines_of a image))
-  all-put h = (all_done a image i at w.counting h, rw (drop_of_length-le image h) at w.bytes)
+  pub all-put : length rest ≡ 0 → (at ≡ length (lines_of a image)) × (out ≡ sets out₀ 0 (lines_of a image))
+  all-put h = (omega (arith, rw (none_left address rest h) at w.place), rw (none_left address rest h) at w.bytes)

@@ -1,14 +1,10 @@
 -- The listing program: the whole output for a whole input.
-use Rattle.std.specs.Prelude.{ℕ, ◌+◌, ◌*◌, ◌/◌, ◌%◌, Bool, cond, ◌&&◌, List, [], ◌∷◌, ◌++◌, eqb, leb, ltb, length, get_or, drop}
+use Rattle.std.specs.Prelude.{ℕ, ◌+◌, ◌*◌, ◌/◌, ◌%◌, cond, ◌&&◌, List, [], ◌∷◌, ◌++◌, eqb, leb, ltb, length, get_or, drop, Option, Some, None, option_and_then}
 unfoldable pub use Rattle.letters.specs.Letters.{hex_value}
 use Rattle.names.specs.Names.{bytes}
 use Rattle.isa.specs.Opcode.{gives_reason2}
 use Rattle.text.specs.Answer.{Answer, accepted, refused}
 use Rattle.text.specs.Listing.{text_of, fit_says, fit_leaves}
-use Rattle.image.specs.declared.Output.{Output}
-use Rattle.image.specs.declared.Output.TheVariants.{Written, NoRoom}
-use Rattle.image.specs.declared.header.Header.{Header}
-use Rattle.image.specs.declared.header.Header.TheVariants.{At, Bad}
 
 -- lower-case hexadecimal digits
 unfoldable pub hex_digit : ℕ → ℕ
@@ -38,32 +34,34 @@ lines_of a [] = []
 lines_of a (b ∷ []) = last_line a b
 lines_of a (b ∷ (c ∷ bs)) = pair_line a b c ++ lines_of (a + 2) bs
 
-abbrev pub is_hex : ℕ → Bool
-is_hex b = leb (hex_value b) 15
+-- the number of four hexadecimal digits
+abbrev pub digits_of : ℕ → ℕ → ℕ → ℕ → Option ℕ
+digits_of a b c d =
+    option_and_then (λ a. option_and_then (λ b. option_and_then (λ c. option_and_then (λ d. Some (4096 * a + 256 * b + 16 * c + d)) (hex_value d)) (hex_value c)) (hex_value b)) (hex_value a)
 
 -- "four hex digits of either case, newline"
-unfoldable pub header_of : List ℕ → Header
+unfoldable pub header_of : List ℕ → Option ℕ
 header_of s =
-    cond (leb 5 (length s) && (eqb (get_or s 4 0) 10 && (is_hex (get_or s 0 0) && (is_hex (get_or s 1 0) && (is_hex (get_or s 2 0) && is_hex (get_or s 3 0))))))
-    (At (4096 * hex_value (get_or s 0 0) + 256 * hex_value (get_or s 1 0) + 16 * hex_value (get_or s 2 0) + hex_value (get_or s 3 0)))
-    Bad
+    cond (leb 5 (length s) && eqb (get_or s 4 0) 10)
+    (digits_of (get_or s 0 0) (get_or s 1 0) (get_or s 2 0) (get_or s 3 0))
+    None
 
 -- "at most 60,000 bytes after it"; "`too long` (also when address plus length passes 65,536)"
 abbrev pub body_of : ℕ → List ℕ → List ℕ
 body_of a body = cond (leb (length body) 60000 && leb (a + length body) 65536) (lines_of a body) (bytes "too long\n")
 
 -- "Otherwise it prints only one line, `bad header` (this first), or `too long`"
-abbrev pub output_of : Header → List ℕ → List ℕ
-output_of (At a) s = body_of a (drop 5 s)
-output_of Bad s = bytes "bad header\n"
+abbrev pub output_of : Option ℕ → List ℕ → List ℕ
+output_of (Some a) s = body_of a (drop 5 s)
+output_of None s = bytes "bad header\n"
 
 unfoldable pub listing_of : List ℕ → List ℕ
 listing_of s = output_of (header_of s) s
 
 -- the paper's number and value for each answer: the value is the text's length
-abbrev pub written_as : Output → Answer
-written_as (Written n) = accepted n
-written_as NoRoom = refused 11
+abbrev pub written_as : Option ℕ → Answer
+written_as (Some n) = accepted n
+written_as None = refused 11
 
 -- "11 output shorter than the text"; "Every refusal .. changes no lent byte"; "output past it stays as it was"
 abbrev pub listing_says : List ℕ → ℕ → Answer

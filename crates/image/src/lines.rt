@@ -6,7 +6,7 @@ ghost use Rattle.names.specs.Names.{bytes as text_bytes};
 ghost use Rattle.image.specs.Image.{hex_digit, hex_byte, hex_word, instruction_of, pair_line, last_line, lines_of};
 
 use text::list;
-use text::list::Listed;
+use text::list::NoText;
 
 // Bytes, stored from `at` on; the place after them.
 pub(crate) fn put(out: &mut [u8], at: usize, text: &[u8]) -> usize
@@ -52,9 +52,9 @@ fn put_instruction(table: &[u8; 256], out: &mut [u8], at: usize, w: u16) -> usiz
     ensures out_after { out.new ≡ sets out.old at (instruction_of w ++ text_bytes "\n") }
 {
     match list::list_in(table, w, &mut out[at..]) {
-        Listed::Text(n) => put(out, at + n, b"\n"),
-        Listed::Reason2 => put(out, at, b"?\n"),
-        Listed::NoRoom => at,
+        Ok(n) => put(out, at + n, b"\n"),
+        Err(NoText::Reason2) => put(out, at, b"?\n"),
+        Err(NoText::NoRoom) => at,
     }
 }
 
@@ -82,15 +82,16 @@ pub(crate) fn put_lines(table: &[u8; 256], out: &mut [u8], a: u16, image: &[u8])
     requires { TellsAll table.now × (length (lines_of a image.now) ≤ length out.old) × (a + length image.now ≤ 65536) }
     ensures { (result ≡ length (lines_of a image.now)) × (out.new ≡ sets out.old 0 (lines_of a image.now)) }
 {
-    let mut i: usize = 0;
-    let mut at: usize = 0;
-    while i < image.len() {
-        let address = (a as usize + i) as u16;
-        if i + 1 == image.len() {
-            return put_last(out, at, address, image[i]);
-        }
-        at = put_pair(table, out, at, address, image[i], image[i + 1]);
-        i += 2;
+    let mut rest = image;
+    let mut address = a as usize;
+    let mut at = 0;
+    while let [b, c, tail @ ..] = rest {
+        at = put_pair(table, out, at, address as u16, *b, *c);
+        address += 2;
+        rest = tail;
+    }
+    if let [b] = rest {
+        at = put_last(out, at, address as u16, *b);
     }
     at
 }

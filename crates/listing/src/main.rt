@@ -3,7 +3,6 @@
 
 ghost use Rattle.std.specs.Prelude.{◌≡◌, length};
 
-use image::Output;
 use report::input::read_full;
 
 // Room for a header, 60,000 bytes, and one more that says that the image is too long.
@@ -31,12 +30,12 @@ fn print(rt: &HostRuntime, out: &[u8], n: usize) {
     }
 }
 
-// `NoRoom` does not come: the output has room for the longest listing.
+// There is always room: the output has room for the longest listing.
 fn main(rt: HostRuntime) {
     let mut input = room_in();
     let n = read_full(&mut rt.stdin(), &mut input);
     let mut out = room_out();
-    if let Output::Written(k) = image::listing(&input[..n], &mut out) {
+    if let Some(k) = image::listing(&input[..n], &mut out) {
         print(&rt, &out, k);
     }
 }

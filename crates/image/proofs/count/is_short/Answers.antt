@@ -1,16 +1,11 @@
-use mathlib.Core.Path.{sym}
-use native.Mathlib.Omega.{arith}
+use Rattle.std.proofs.Common.{sym, ◌∙◌, ◌*◌, length, arith}
 use borrow.Author.Tests.{le-ltb}
-use lib.ListN.{length}
 use Rattle.image.specs.Image.{lines_of}
 use Rattle.image.proofs.Writing.{lines-room}
 use Rattle.image.proofs.count.is_short.Goals as goal
 
-pub returns-then-image-room : goal.returns-then-image-room
-returns-then-image-room c = let a = c.args in
-    let s = a.image.now in
-    let l = lines-room 0 s (λ i. omega (arith, c.shared_slice_known-1.given i)) in
-    sym (le-ltb a.room (length (lines_of 0 s)) (omega (arith, c.if-image-room.true)))
-
-pub returns : goal.returns
-returns c = rw c.lines_length.ensures
+pub returns-else-room-image : goal.returns-else-room-image
+returns-else-room-image c =
+    let s = c.args.image.now in
+    let l = lines-room 0 s (λ i. omega (arith, c.type_inv.image i)) in
+    le-ltb c.args.room (14 * length s) c.if-room-image.false ∙ sym (le-ltb c.args.room (length (lines_of 0 s)) (omega (arith, l, c.if-room-image.false)))
