@@ -109,58 +109,69 @@ fn condition_rows(rt: &impl Print, words: &[u16]) {
     }
 }
 
-fn answer(op: Op, d: u16, s: u16) -> Answer {
-    match op {
-        Op::Alu(a) => alu::compute(a, d, s),
-        Op::Compare(c) => Answer {
-            value: 0,
-            flags: alu::compare(c, d, s),
-        },
-        _ => Answer { value: 0, flags: 0 },
+// A computational instruction as the table has it: its name, and what it does.
+#[derive(Clone, Copy)]
+struct Instruction {
+    name: u64,
+    op: Op,
+}
+
+impl Instruction {
+    fn of(table: &[u8; 256], code: u8) -> Instruction {
+        Instruction {
+            name: opcode::mnemonic(table, code),
+            op: opcode::decode(table, code),
+        }
     }
-}
 
-fn digest(op: Op, d: u16, words: &[u16]) -> u64 {
-    words.iter().fold(1, |digest, &s| {
-        let a = answer(op, d, s);
-        report::absorb(report::absorb(digest, a.value), a.flags)
-    })
-}
-
-fn digest_row(rt: &impl Print, table: &[u8; 256], code: u8, op: Op, d: u16, words: &[u16]) {
-    report::name(rt, opcode::mnemonic(table, code));
-    report::space(rt);
-    report::hex(rt, d as u64, 4);
-    report::space(rt);
-    report::hex(rt, digest(op, d, words), 8);
-    report::end(rt);
-}
-
-fn digest_rows(rt: &impl Print, table: &[u8; 256], code: u8, words: &[u16]) {
-    let op = opcode::decode(table, code);
-    for &d in words {
-        digest_row(rt, table, code, op, d, words);
+    fn answer(self, d: u16, s: u16) -> Answer {
+        match self.op {
+            Op::Alu(a) => alu::compute(a, d, s),
+            Op::Compare(c) => Answer {
+                value: 0,
+                flags: alu::compare(c, d, s),
+            },
+            _ => Answer { value: 0, flags: 0 },
+        }
     }
-}
 
-fn edge_row(rt: &impl Print, table: &[u8; 256], code: u8, d: u16, s: u16) {
-    let a = answer(opcode::decode(table, code), d, s);
-    report::name(rt, opcode::mnemonic(table, code));
-    report::space(rt);
-    report::hex(rt, d as u64, 4);
-    report::space(rt);
-    report::hex(rt, s as u64, 4);
-    report::space(rt);
-    report::hex(rt, a.value as u64, 4);
-    report::space(rt);
-    report::hex(rt, a.flags as u64, 4);
-    report::end(rt);
-}
+    fn digest(self, d: u16, words: &[u16]) -> u64 {
+        words.iter().fold(1, |digest, &s| {
+            let a = self.answer(d, s);
+            report::absorb(report::absorb(digest, a.value), a.flags)
+        })
+    }
 
-fn edge_rows(rt: &impl Print, table: &[u8; 256], code: u8, edges: &[u16]) {
-    for &d in edges {
-        for &s in edges {
-            edge_row(rt, table, code, d, s);
+    fn digest_row(self, rt: &impl Print, d: u16, words: &[u16]) {
+        report::name(rt, self.name);
+        report::space(rt);
+        report::hex(rt, d as u64, 4);
+        report::space(rt);
+        report::hex(rt, self.digest(d, words), 8);
+        report::end(rt);
+    }
+
+    fn edge_row(self, rt: &impl Print, d: u16, s: u16) {
+        let a = self.answer(d, s);
+        report::name(rt, self.name);
+        for word in [d, s, a.value, a.flags] {
+            report::space(rt);
+            report::hex(rt, word as u64, 4);
+        }
+        report::end(rt);
+    }
+
+    fn digest_rows(self, rt: &impl Print, words: &[u16]) {
+        for &d in words {
+            self.digest_row(rt, d, words);
+        }
+    }
+
+    fn edge_rows(self, rt: &impl Print, edges: &[u16]) {
+        for &d in edges {
+            for &s in edges {
+                self.edge_row(rt, d, s);
+            }
         }
     }
 }
@@ -172,13 +183,13 @@ static UNIT: [u8; 16] = [
 
 fn all_digests(rt: &impl Print, table: &[u8; 256], words: &[u16]) {
     for &code in &UNIT {
-        digest_rows(rt, table, code, words);
+        Instruction::of(table, code).digest_rows(rt, words);
     }
 }
 
 fn all_edges(rt: &impl Print, table: &[u8; 256], edges: &[u16]) {
     for &code in &UNIT {
-        edge_rows(rt, table, code, edges);
+        Instruction::of(table, code).edge_rows(rt, edges);
     }
 }
 
