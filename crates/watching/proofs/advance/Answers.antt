@@ -9,27 +9,6 @@ use Rattle.entries.specs.Entries.{met_at, meets}
 use Rattle.watching.proofs.Turns.{begin, sought-some, sought-met, sought-none, stored-some, stored-none, halts, ends, breaks, goes_on, catches, caught-names}
 use Rattle.watching.proofs.advance.Goals as goal
 
-pub loop-halted-init : goal.loop-halted-init
-loop-halted-init c = let a = c.args in (
-  omega arith,
-  omega arith,
-  (λ tells. begin a.budget _ (standing (cpu a.regs.now a.csrs.now a.board) a.place a.ram.now a.journal.now)),
-  refl,
-  refl,
-)
-
-pub overflow_sub-budget : goal.overflow_sub-budget
-overflow_sub-budget c = omega (arith, c.loop-halted.invariant.0)
-
-pub overflow_add-bus : goal.overflow_add-bus
-overflow_add-bus c = omega (arith, c.loop-halted.invariant.0, c.loop-halted.invariant.1, c.if-left-eq0.false, c.recorded_step-r.type_inv, c.ranges.budget)
-
-pub overflow_sub-left : goal.overflow_sub-left
-overflow_sub-left c = omega (arith, c.if-left-eq0.false)
-
-pub loop-halted-smaller : goal.loop-halted-smaller
-loop-halted-smaller c = omega (arith, c.if-left-eq0.false)
-
 pub loop-halted-preserved : goal.loop-halted-preserved
 loop-halted-preserved c = let list = c.args.list.now in
     let r = c.recorded_step-r.result in

@@ -4,9 +4,3 @@ use Rattle.watching.proofs.sought.Goals as goal
 pub returns-then-list-eq0 : goal.returns-then-list-eq0
 returns-then-list-eq0 c = let a = c.args in
     sought-empty a.skip _ a.list.now c.if-list-eq0.true
-
-pub returns-then-skip : goal.returns-then-skip
-returns-then-skip c = rw c.if-skip.true
-
-pub returns : goal.returns
-returns c = rw c.if-skip.false c.first.ensures

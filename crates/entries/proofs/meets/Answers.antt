@@ -1,4 +1,0 @@
-use Rattle.entries.proofs.meets.Goals as goal
-
-pub returns : goal.returns
-returns c = rw c.plus.ensures
