@@ -1,12 +1,11 @@
 use Prim.Native.Nat.{◌+◌, ◌-◌, ◌*◌, ◌≤◌, ◌<◌}
-use mathlib.Core.Path.{refl, sym, ◌∙◌}
+use mathlib.Core.Path.{sym, ◌∙◌}
 use native.Mathlib.Omega.{arith}
 use lib.Dec.{eqb}
 use Rattle.names.specs.Names.{PC}
-use Rattle.bus.specs.State.{word, cpu}
-use Rattle.recording.specs.Code.{standing}
+use Rattle.bus.specs.State.{word}
 use Rattle.entries.specs.Entries.{met_at, meets}
-use Rattle.watching.proofs.Turns.{begin, sought-some, sought-met, sought-none, stored-some, stored-none, halts, ends, breaks, goes_on, catches, caught-names}
+use Rattle.watching.proofs.Turns.{sought-some, sought-met, sought-none, stored-some, stored-none, halts, ends, breaks, goes_on, catches, caught-names}
 use Rattle.watching.proofs.advance.Goals as goal
 
 pub loop-halted-preserved : goal.loop-halted-preserved
