@@ -14,10 +14,8 @@ use Rattle.calls.specs.Inputs.{Input, set_register}
 use Rattle.calls.specs.Calls.{W, answer_of, said_by}
 use Rattle.calls.specs.declared.state.Answer.{Answer as AnswerT}
 use Rattle.calls.specs.declared.state.Answer.TheVariants.{Accepted, Stepped, Ran, Refused}
-use Rattle.entries.specs.Code.{no_points, added, points_of}
+use Rattle.entries.specs.Code.{no_points, added, added_all, points_of}
 use Rattle.entries.specs.declared.Entry.{Entry}
-use Rattle.entries.specs.declared.Points.{Points}
-use Rattle.entries.proofs.Gathering.{gathers-none, gathers-next, gathers-all}
 use Rattle.pens.specs.Pen.{settings, all_registers, made}
 
 -- what a call leaves does not depend on how it answers
@@ -113,6 +111,5 @@ made-append (c ∷ a) b w = made-append a b (answer_of c w).world
 
 -- ---- the list of one break
 pub lone : (e : Entry) → added no_points e ≡ points_of (e ∷ [])
-lone e =
-    let l = e ∷ [] in
-    ap (λ (p : Points). added p e) (sym (gathers-none no_points l)) ∙ gathers-next 0 no_points l (omega arith) ∙ gathers-all 1 no_points l (omega arith)
+unfolding added_all
+lone e = refl

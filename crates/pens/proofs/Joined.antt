@@ -9,6 +9,7 @@ use Rattle.watched.specs.Answer.{watched_of}
 use Rattle.watched.specs.Code.{answer_as}
 use Rattle.watched.specs.declared.Watched.{Watched as WatchedT}
 use Rattle.utf8.specs.Latin.{latin_of}
+use Rattle.std.specs.Prelude.{Option}
 use Rattle.manifests.specs.Manifests.{name_of}
 use Rattle.manifests.specs.Code.{HeadsOf, held_from}
 use Rattle.manifests.specs.declared.Held.{Held}
@@ -24,7 +25,7 @@ prepares setup name w v u at e p q =
     q ∙ ap (made (settings (given_in setup))) (p ∙ ap (λ (a : ℕ). made (pokings a (latin_of name ++ (0 ∷ []))) w) e)
     ∙ sym (made-append (pokings (address_in setup) (latin_of name ++ (0 ∷ []))) (settings (given_in setup)) w)
 
-pub runs : (h : Held) (setup : List ℕ) (w : W) (stop budget : ℕ) (r : WatchedT) (x : Report) (ram ws : List ℕ) (l : List Entry)
+pub runs : (h : Option Held) (setup : List ℕ) (w : W) (stop budget : ℕ) (r : WatchedT) (x : Report) (ram ws : List ℕ) (l : List Entry)
     → stop ≡ stop_in setup → budget ≡ budget_in setup → watched_of budget (entry stop 1 0 ∷ []) w ≡ answer_as r ram ws l → x ≡ report_of h r
     → reported h (matching setup w) ≡ report_as x ram ws
 runs h setup w stop budget r x ram ws l e f q p =
@@ -33,15 +34,15 @@ runs h setup w stop budget r x ram ws l e f q p =
     ∙ ap (reported h) q ∙ ap (λ (y : Report). report_as y ram ws) (sym p)
 
 -- a pen by its line, from the look-up
-pub by-line : (line today heads last more setup : List ℕ) (w : W) (h : Held) (name : List ℕ) (a : Penned) → h ≡ held_from line today heads last more
+pub by-line : (line today heads last more setup : List ℕ) (w : W) (h : Option Held) (name : List ℕ) (a : Penned) → h ≡ held_from line today heads last more
     → name ≡ name_of today last h → pen_named h name setup w ≡ a → pen_from line today heads last more setup w ≡ a
 unfolding pen_from
 by-line line today heads last more setup w h name a e f q =
-    ap (λ (k : Held). pen_named k (name_of today last k) setup w) (sym e) ∙ ap (λ (n : List ℕ). pen_named h n setup w) (sym f) ∙ q
+    ap (λ (k : Option Held). pen_named k (name_of today last k) setup w) (sym e) ∙ ap (λ (n : List ℕ). pen_named h n setup w) (sym f) ∙ q
 
 -- with the manifests' own heads it is the pen of the rules
 pub headed-pen : (line today heads last more setup : List ℕ) (w : W) → HeadsOf today heads → HeadsOf last more
     → pen_of line today last setup w ≡ pen_from line today heads last more setup w
 unfolding pen_of pen_from
 headed-pen line today heads last more setup w e f =
-    ap (λ (k : Held). pen_named k (name_of today last k) setup w) (sym (headed-held line today heads last more e f))
+    ap (λ (k : Option Held). pen_named k (name_of today last k) setup w) (sym (headed-held line today heads last more e f))

@@ -3,7 +3,6 @@ use Prim.Native.Nat.{ℕ, suc, ◌+◌, ◌-◌, ◌%◌, ◌≤◌, ◌<◌}
 use mathlib.Core.Path.{◌≡◌, refl, sym, ◌∙◌, ap}
 use mathlib.Core.Bool.{true}
 use mathlib.Core.List.{List, [], ◌∷◌, ◌++◌}
-use mathlib.Core.Option.{Option, some, none}
 use native.Mathlib.Omega.{arith}
 use native.Mathlib.Nat.{mod-eq_of_lt}
 use native.Mathlib.Decide.{dec_lt}
@@ -11,43 +10,42 @@ use lib.ListN.{length, drop}
 use Rattle.history.specs.Trace.{give}
 use Rattle.calls.specs.Inputs.{poke}
 use Rattle.calls.specs.Calls.{W, answer_of}
-use Rattle.utf8.specs.Utf8.{letter_of, onto, points}
+use Rattle.utf8.specs.Utf8.{letter, letter_of, onto, points}
 use Rattle.utf8.specs.Latin.{judged_of, latin_of, all_latin}
-use Rattle.utf8.specs.declared.Judged.TheVariants.{Fine}
-use Rattle.utf8.specs.declared.Letter.TheVariants.{Is, Bad}
+use Rattle.std.specs.Prelude.{Option, Some, None, Ok}
 use Rattle.utf8.proofs.Reading.{none_left, one-letter, bad-letter, fine-points, fine-length, fine-latin, latin-head}
 use Rattle.pens.specs.Pen.{pokings, made}
 
 -- what is left of a name from a place on: so many single bytes
 pub record Rest (name : List ℕ) (i left : ℕ) : Type 0 where
   pub bytes : List ℕ
-  pub read : points (drop i name) ≡ some bytes
+  pub read : points (drop i name) ≡ Some bytes
   pub long : length bytes ≡ left
   pub latin : all_latin bytes ≡ true
 
 -- what one letter tells: `single`'s promise
 abbrev pub Singles : List ℕ → ℕ → ℕ → ℕ → Type 0
-Singles name i byte next = (c : ℕ) (s : List ℕ) → points (drop i name) ≡ some (c ∷ s) → c ≤ 255 → (byte ≡ c) × (points (drop next name) ≡ some s)
+Singles name i byte next = (c : ℕ) (s : List ℕ) → points (drop i name) ≡ Some (c ∷ s) → c ≤ 255 → (byte ≡ c) × (points (drop next name) ≡ Some s)
 
-onto-some : (c d : ℕ) (o : Option (List ℕ)) (s : List ℕ) → onto c o ≡ some (d ∷ s) → (c ≡ d) × (o ≡ some s)
-onto-some c d none s e = let z : ◌≡◌ {A = ℕ} 0 1 = cc in absurd (omega arith)
-onto-some c d (some t) s e = let x : c ≡ d = cc in let y : t ≡ s = cc in (x, ap some y)
+onto-some : (c d : ℕ) (o : Option (List ℕ)) (s : List ℕ) → onto c o ≡ Some (d ∷ s) → (c ≡ d) × (o ≡ Some s)
+onto-some c d None s e = let z : ◌≡◌ {A = ℕ} 0 1 = cc in absurd (omega arith)
+onto-some c d (Some t) s e = let x : c ≡ d = cc in let y : t ≡ s = cc in (x, ap Some y)
 
-pub singles-letter : (name : List ℕ) (i p n : ℕ) → letter_of (drop i name) ≡ Is p n → Singles name i (p % 256) (i + n)
+pub singles-letter : (name : List ℕ) (i p n : ℕ) → letter_of (drop i name) ≡ letter p n → Singles name i (p % 256) (i + n)
 singles-letter name i p n e c s q h =
     let k = onto-some p c (points (drop (i + n) name)) s (sym (one-letter name i p n e) ∙ q) in
     let m : p % 256 ≡ p = mod-eq_of_lt (omega (arith, k.0, h)) in
     (m ∙ k.0, k.1)
 
 -- where no letter begins no byte is asked for
-nothing-at : (name : List ℕ) (i c : ℕ) (s : List ℕ) → letter_of (drop i name) ≡ Bad → points (drop i name) ≡ some (c ∷ s) → ⊥
+nothing-at : (name : List ℕ) (i c : ℕ) (s : List ℕ) → letter_of (drop i name) ≡ None → points (drop i name) ≡ Some (c ∷ s) → ⊥
 nothing-at name i c s e q = go (dec_lt i (length name))
   where
     go : Dec (i < length name) → ⊥
     go (yes h) = let f = sym (bad-letter name i h e) ∙ q in let z : ◌≡◌ {A = ℕ} 0 1 = cc in omega arith
     go (no h) = let f = sym (none_left name i (omega arith)) ∙ q in let z : ◌≡◌ {A = ℕ} 0 1 = cc in omega arith
 
-pub singles-bad : (name : List ℕ) (i byte next : ℕ) → letter_of (drop i name) ≡ Bad → Singles name i byte next
+pub singles-bad : (name : List ℕ) (i byte next : ℕ) → letter_of (drop i name) ≡ None → Singles name i byte next
 singles-bad name i byte next e c s q h = absurd (nothing-at name i c s e q)
 
 -- ---- letter by letter
@@ -59,7 +57,7 @@ pub record Left (name : List ℕ) (i left a : ℕ) (w v : W) : Type 0 where
   pub rest : Rest name i left
   pub comes : made (pokings a (ending rest.bytes)) w ≡ v
 
-pub begun : (name : List ℕ) (n a : ℕ) (w : W) → judged_of name ≡ Fine n → Left name 0 n a w (made (pokings a (ending (latin_of name))) w)
+pub begun : (name : List ℕ) (n a : ℕ) (w : W) → judged_of name ≡ Ok n → Left name 0 n a w (made (pokings a (ending (latin_of name))) w)
 begun name n a w e =
     record {
       rest = record { bytes = latin_of name; read = fine-points name n e; long = fine-length name n e; latin = fine-latin name n e };
@@ -67,7 +65,7 @@ begun name n a w e =
     }
 
 module _ (name : List ℕ) (i left a : ℕ) (w v : W) where
-  turned : (bytes : List ℕ) → points (drop i name) ≡ some bytes → length bytes ≡ suc left → all_latin bytes ≡ true → made (pokings a (ending bytes)) w ≡ v
+  turned : (bytes : List ℕ) → points (drop i name) ≡ Some bytes → length bytes ≡ suc left → all_latin bytes ≡ true → made (pokings a (ending bytes)) w ≡ v
       → (byte next : ℕ) → Singles name i byte next → (u : W) → u ≡ (answer_of (give (poke a byte)) w).world → Left name next left (a + 1) u v
   unfolding made pokings
   turned [] p l t q byte next f u e = absurd (omega (arith, l))

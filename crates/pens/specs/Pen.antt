@@ -1,5 +1,5 @@
 -- Q-14's pen: its name poked, the given registers set, the firmware's matching routine run, and r0 reported, all by the machine's calls. And a list of pens.
-use Rattle.std.specs.Prelude.{ℕ, zero, suc, ◌+◌, Bool, true, cond, ◌&&◌, List, [], ◌∷◌, ◌++◌, leb, ltb, length, get_or, drop}
+use Rattle.std.specs.Prelude.{ℕ, zero, suc, ◌+◌, Bool, true, cond, ◌&&◌, List, [], ◌∷◌, ◌++◌, leb, ltb, length, get_or, drop, Option, Some, None, Result, Ok, Err}
 use Rattle.bus.specs.State.{word}
 use Rattle.history.specs.Trace.{Call, give}
 use Rattle.calls.specs.Inputs.{Input, set_register, poke}
@@ -9,11 +9,10 @@ use Rattle.watching.specs.declared.Ending.{Ending}
 use Rattle.watching.specs.declared.Ending.TheVariants.{Refused}
 use Rattle.watched.specs.Answer.{Watched, or_else, watched_of}
 use Rattle.utf8.specs.Latin.{judged_of, latin_of}
-use Rattle.utf8.specs.declared.Judged.{Judged}
-use Rattle.utf8.specs.declared.Judged.TheVariants.{Fine, NotUtf8, NotLatin}
+use Rattle.utf8.specs.declared.Unfit.{Unfit}
+use Rattle.utf8.specs.declared.Unfit.TheVariants.{NotUtf8, NotLatin}
 use Rattle.manifests.specs.Manifests.{held_of, name_of}
 use Rattle.manifests.specs.declared.Held.{Held}
-use Rattle.manifests.specs.declared.Held.TheVariants.{Today, LastGood, Neither}
 
 -- "`setup` holds words of 16 bits: 0 the name's address, 1 the address to stop at, 2 the budget, then for each given register its number and its content";
 -- "A setup shorter than three words reads as 0 where it has none"
@@ -62,7 +61,7 @@ matching setup w = watched_of (budget_in setup) (entry (stop_in setup) 1 0 ∷ [
 -- a pen's answer: its number (0: accepted), where its name lies, r0, the run's steps and bus bytes, why it stopped, and all that is there afterwards
 pub record Penned : Type 0 where
   pub number : ℕ
-  pub held : Held
+  pub held : Option Held
   pub r0 : ℕ
   pub steps : ℕ
   pub bus : ℕ
@@ -70,7 +69,7 @@ pub record Penned : Type 0 where
   pub world : W
 
 -- ".. and r0 is reported"
-abbrev pub reported : Held → Watched → Penned
+abbrev pub reported : Option Held → Watched → Penned
 reported h a =
     record {
       number = 0;
@@ -83,35 +82,34 @@ reported h a =
     }
 
 -- "a refused pen touches neither"
-abbrev pub refused : ℕ → Held → W → Penned
+abbrev pub refused : ℕ → Option Held → W → Penned
 refused n h w = record { number = n; held = h; r0 = 0; steps = 0; bus = 0; ending = Refused; world = w }
 
-abbrev pub unless_refused : ℕ → Held → W → Penned → Penned
+abbrev pub unless_refused : ℕ → Option Held → W → Penned → Penned
 unless_refused zero h w a = a
 unless_refused (suc n) h w a = refused (suc n) h w
 
 -- "80 name not UTF-8, 81 code point over 0xff or NUL, 82 name and 0 don't fit RAM", from an address on and without wrapping
-unfoldable pub judged_check : Judged → ℕ → ℕ → ℕ
-judged_check NotUtf8 at ram = 80
-judged_check NotLatin at ram = 81
-judged_check (Fine n) at ram = cond (leb (at + (n + 1)) ram) 0 82
+unfoldable pub judged_check : Result ℕ Unfit → ℕ → ℕ → ℕ
+judged_check (Err NotUtf8) at ram = 80
+judged_check (Err NotLatin) at ram = 81
+judged_check (Ok n) at ram = cond (leb (at + (n + 1)) ram) 0 82
 
 -- "per pen in this order: 83 pen in neither list or its line no number", then these
-unfoldable pub name_check : Held → Judged → ℕ → ℕ → ℕ
-name_check (Today a e) j at ram = judged_check j at ram
-name_check (LastGood a e) j at ram = judged_check j at ram
-name_check Neither j at ram = 83
+unfoldable pub name_check : Option Held → Result ℕ Unfit → ℕ → ℕ → ℕ
+name_check (Some h) j at ram = judged_check j at ram
+name_check None j at ram = 83
 
 -- "Refusals: 6 for a given register before any pen", after 1, 2 and 3
 abbrev pub first_check : List ℕ → W → ℕ
 first_check setup w = or_else (check_of w) (cond (all_registers (given_in setup)) 0 6)
 
 -- all that refuses a pen, by its name's judgement
-abbrev pub pen_check : Held → Judged → List ℕ → W → ℕ
+abbrev pub pen_check : Option Held → Result ℕ Unfit → List ℕ → W → ℕ
 pen_check h j setup w = or_else (first_check setup w) (name_check h j (address_in setup) (length w.box.ram))
 
 -- a pen whose name was looked up
-unfoldable pub pen_named : Held → List ℕ → List ℕ → W → Penned
+unfoldable pub pen_named : Option Held → List ℕ → List ℕ → W → Penned
 pen_named h name setup w =
     unless_refused (pen_check h (judged_of name) setup w) h w (reported h (matching setup (made (preparing setup name) w)))
 

@@ -1,23 +1,38 @@
 // What refuses a pen.
-ghost use Rattle.std.specs.Prelude.{◌+◌, ◌≡◌, cond, leb};
-ghost use Rattle.watched.specs.Answer.{or_else};
-ghost use Rattle.pens.specs.Pen.{judged_check, name_check};
+ghost use Rattle.std.specs.Prelude.{ℕ, ◌+◌, ◌≡◌, leb, Ok};
+ghost use Rattle.pens.specs.Pen.{name_check};
+ghost use Rattle.pens.specs.Code.{refusal_number, number_in};
 
+use calls::state;
 use manifests::Held;
-use utf8::Judged;
+use utf8::Unfit;
 
-// The first of two that is a refusal.
-pub fn or_else(a: u8, b: u8) -> u8
-    ensures { result ≡ or_else a b }
-{
-    if a == 0 { b } else { a }
+// Why a pen is refused: by what each call of the machine checks, for a given register, or by its name. A name in neither list counts before an unfit one.
+#[derive(Clone, Copy)]
+pub enum Refusal {
+    Machine(state::Refusal),
+    NoRegister,
+    NotHeld,
+    Name(Unfit),
+    NoRoom,
 }
 
-// 6, unless all given registers are among the sixteen.
-pub fn register_check(are_registers: bool) -> u8
-    ensures { result ≡ cond are_registers 0 6 }
-{
-    if are_registers { 0 } else { 6 }
+// The number that the rules give a refusal.
+impl From<Refusal> for u8 {
+    fn from(why: Refusal) -> u8
+        ensures { result ≡ refusal_number why }
+    {
+        match why {
+            Refusal::Machine(why) => u8::from(why),
+            Refusal::NoRegister => 6,
+            Refusal::NotHeld => 83,
+            Refusal::Name(unfit) => match unfit {
+                Unfit::NotUtf8 => 80,
+                Unfit::NotLatin => 81,
+            },
+            Refusal::NoRoom => 82,
+        }
+    }
 }
 
 // Whether so many single bytes and the closing 0 are in RAM from an address on.
@@ -31,24 +46,25 @@ fn is_room(at: u16, n: usize, ram: usize) -> bool
     n < ram - first
 }
 
-// 80, 81, 82 or 0.
-fn judged_check(j: Judged, at: u16, ram: usize) -> u8
-    ensures { result ≡ judged_check j at ram }
+// What is wrong with the name, or of how many single bytes it is.
+pub fn name_check(
+    held: Option<Held>,
+    judged: Result<usize, Unfit>,
+    at: u16,
+    ram: usize,
+) -> Result<usize, Refusal>
+    ensures number { number_in result ≡ name_check held judged at ram }
+    ensures letters { (n : ℕ) → result ≡ Ok n → judged ≡ Ok n }
 {
-    match j {
-        Judged::NotUtf8 => 80,
-        Judged::NotLatin => 81,
-        Judged::Fine(n) => if is_room(at, n, ram) { 0 } else { 82 },
+    if held.is_none() {
+        return Err(Refusal::NotHeld);
     }
-}
-
-// 83, or what is wrong with the name.
-pub fn name_check(held: Held, j: Judged, at: u16, ram: usize) -> u8
-    ensures { result ≡ name_check held j at ram }
-{
-    match held {
-        Held::Today { from: _, to: _ } => judged_check(j, at, ram),
-        Held::LastGood { from: _, to: _ } => judged_check(j, at, ram),
-        Held::Neither => 83,
+    match judged {
+        Err(unfit) => Err(Refusal::Name(unfit)),
+        Ok(n) => if is_room(at, n, ram) {
+            Ok(n)
+        } else {
+            Err(Refusal::NoRoom)
+        },
     }
 }

@@ -1,5 +1,5 @@
 // Calls made without regard to their answers: given registers.
-ghost use Rattle.std.specs.Prelude.{◌≡◌, true, drop, get_or, ◌-◌, ◌%◌};
+ghost use Rattle.std.specs.Prelude.{◌≡◌, true, drop, get_or, ◌%◌};
 ghost use Rattle.calls.specs.Calls.{world_of, answer_of};
 ghost use Rattle.machine.specs.Asked.{asked};
 ghost use Rattle.machine.specs.declared.Call.TheVariants.{SetRegister};
@@ -12,10 +12,7 @@ use machine::Call;
 pub fn word_at(setup: &[u16], i: usize) -> u16
     ensures { result ≡ get_or setup.now i 0 }
 {
-    if i < setup.len() {
-        return setup[i];
-    }
-    0
+    setup.get(i).copied().unwrap_or(0)
 }
 
 // One call of the machine; what it answers is not needed.
@@ -27,21 +24,11 @@ pub fn make(call: Call, m: Machine, ram: &mut [u8], journal: &mut [u16]) -> Mach
     after
 }
 
-// The place of the last of so many words.
-fn before(n: usize) -> usize
-    ensures { result ≡ n - 1 }
-{
-    if n == 0 {
-        return 0;
-    }
-    n - 1
-}
-
 // Whether all given registers are among the sixteen. A last word without its pair is not read.
 pub fn are_registers(setup: &[u16]) -> bool
     ensures { result ≡ all_registers (drop 3 setup.now) }
 {
-    let last = before(setup.len());
+    let last = setup.len().saturating_sub(1);
     let mut i = 3;
     while i < last {
         if 15 < setup[i] {
@@ -63,7 +50,7 @@ pub fn give(m: Machine, ram: &mut [u8], journal: &mut [u16], setup: &[u16]) -> M
     requires { all_registers (drop 3 setup.now) ≡ true }
     ensures { world_of result ram.new journal.new ≡ made (settings (drop 3 setup.now)) (world_of m ram.old journal.old) }
 {
-    let last = before(setup.len());
+    let last = setup.len().saturating_sub(1);
     let mut after = m;
     let mut i = 3;
     while i < last {

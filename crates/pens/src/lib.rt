@@ -6,43 +6,34 @@ mod giving;
 mod poking;
 mod runs;
 
-ghost use Rattle.std.specs.Prelude.{◌+◌, ◌≤◌, ◌≡◌, true, length, get_or, drop};
+ghost use Rattle.std.specs.Prelude.{ℕ, ◌+◌, ◌≤◌, ◌≡◌, true, length, get_or, drop, cond, Ok};
 ghost use Rattle.calls.specs.Calls.{world_of};
 ghost use Rattle.utf8.specs.Latin.{judged_of};
-ghost use Rattle.utf8.specs.declared.Judged.TheVariants.{Fine};
 ghost use Rattle.pens.specs.Pen.{all_registers, preparing, made, matching, reported, first_check, pen_check, pen_named};
-ghost use Rattle.pens.specs.Code.{pen_from, report_as, refuse};
+ghost use Rattle.pens.specs.Code.{number_in, pen_from, report_as};
 
 use calls::checks;
 use calls::state::Machine;
+pub use checking::Refusal;
 use manifests::Held;
-use utf8::Judged;
+use utf8::Unfit;
 use watching::Ending;
 
-// A pen's answer: the refusal's number (0: accepted), where its name lies, r0, the run's steps and bus bytes, why it stopped, and the machine.
+// What an accepted pen's run told: r0, its steps and bus bytes, and why it stopped.
 #[derive(Clone, Copy)]
-pub struct Report {
-    pub number: u8,
-    pub held: Held,
+pub struct Run {
     pub r0: u16,
     pub steps: u16,
     pub bus: u32,
     pub ending: Ending,
-    pub machine: Machine,
 }
 
-fn refused(m: Machine, held: Held, number: u8) -> Report
-    ensures { result ≡ refuse m held number }
-{
-    Report {
-        number,
-        held,
-        r0: 0,
-        steps: 0,
-        bus: 0,
-        ending: Ending::Refused,
-        machine: m,
-    }
+// A pen's answer: its run or why it is refused, where its name lies, and the machine.
+#[derive(Clone, Copy)]
+pub struct Report {
+    pub result: Result<Run, Refusal>,
+    pub held: Option<Held>,
+    pub machine: Machine,
 }
 
 // The name poked, and the given registers set.
@@ -54,7 +45,7 @@ fn prepared(
     n: usize,
     setup: &[u16],
 ) -> Machine
-    requires { (judged_of name.now ≡ Fine n) × (get_or setup.now 0 0 + (n + 1) ≤ 65536) × (all_registers (drop 3 setup.now) ≡ true) }
+    requires { (judged_of name.now ≡ Ok n) × (get_or setup.now 0 0 + (n + 1) ≤ 65536) × (all_registers (drop 3 setup.now) ≡ true) }
     ensures { world_of result ram.new journal.new
         ≡ made (preparing setup.now name.now) (world_of m ram.old journal.old) }
 {
@@ -68,12 +59,12 @@ fn accepted(
     m: Machine,
     ram: &mut [u8],
     journal: &mut [u16],
-    held: Held,
+    held: Option<Held>,
     name: &[u8],
     n: usize,
     setup: &[u16],
 ) -> Report
-    requires { (judged_of name.now ≡ Fine n) × (get_or setup.now 0 0 + (n + 1) ≤ 65536) × (all_registers (drop 3 setup.now) ≡ true) }
+    requires { (judged_of name.now ≡ Ok n) × (get_or setup.now 0 0 + (n + 1) ≤ 65536) × (all_registers (drop 3 setup.now) ≡ true) }
     ensures { reported held (matching setup.now (made (preparing setup.now name.now) (world_of m ram.old journal.old)))
         ≡ report_as result ram.new journal.new }
 {
@@ -81,20 +72,39 @@ fn accepted(
     runs::run(ready, ram, journal, held, setup)
 }
 
-// What refuses a whole list before any pen: 1, 2, 3, 6 or 0.
-pub fn refusal(m: Machine, ram: &[u8], journal: &[u16], setup: &[u16]) -> u8
-    ensures { result ≡ first_check setup.now (world_of m ram.now journal.now) }
+// 6, unless all given registers are among the sixteen.
+fn register_check(setup: &[u16]) -> Result<(), Refusal>
+    ensures { number_in result ≡ cond (all_registers (drop 3 setup.now)) 0 6 }
 {
-    let six = checking::register_check(giving::are_registers(setup));
-    checking::or_else(checks::check(m, ram, journal), six)
+    if giving::are_registers(setup) {
+        Ok(())
+    } else {
+        Err(Refusal::NoRegister)
+    }
 }
 
-// All that refuses a pen, by its name's judgement: 1, 2, 3, 6, 83, 80, 81, 82 or 0.
-fn pen_check(m: Machine, ram: &[u8], journal: &[u16], held: Held, j: Judged, setup: &[u16]) -> u8
-    ensures { result ≡ pen_check held j setup.now (world_of m ram.now journal.now) }
+// What refuses a whole list before any pen: 1, 2, 3 or 6.
+pub fn refusal(m: Machine, ram: &[u8], journal: &[u16], setup: &[u16]) -> Result<(), Refusal>
+    ensures { number_in result ≡ first_check setup.now (world_of m ram.now journal.now) }
 {
-    let own = checking::name_check(held, j, giving::word_at(setup, 0), ram.len());
-    checking::or_else(refusal(m, ram, journal, setup), own)
+    checks::check(m, ram, journal).map_err(Refusal::Machine)?;
+    register_check(setup)
+}
+
+// All that refuses a pen, by its name's judgement: 1, 2, 3, 6, 83, 80, 81 or 82; else of how many single bytes its name is.
+fn pen_check(
+    m: Machine,
+    ram: &[u8],
+    journal: &[u16],
+    held: Option<Held>,
+    judged: Result<usize, Unfit>,
+    setup: &[u16],
+) -> Result<usize, Refusal>
+    ensures number { number_in result ≡ pen_check held judged setup.now (world_of m ram.now journal.now) }
+    ensures letters { (n : ℕ) → result ≡ Ok n → judged ≡ Ok n }
+{
+    refusal(m, ram, journal, setup)?;
+    checking::name_check(held, judged, giving::word_at(setup, 0), ram.len())
 }
 
 // A pen whose name was looked up. One that nothing refuses has a fine name.
@@ -102,22 +112,21 @@ pub fn pen_named(
     m: Machine,
     ram: &mut [u8],
     journal: &mut [u16],
-    held: Held,
+    held: Option<Held>,
     name: &[u8],
     setup: &[u16],
 ) -> Report
     ensures { pen_named held name.now setup.now (world_of m ram.old journal.old)
         ≡ report_as result ram.new journal.new }
 {
-    let j = utf8::judge(name);
-    let number = pen_check(m, ram, journal, held, j, setup);
-    if number != 0 {
-        return refused(m, held, number);
+    match pen_check(m, ram, journal, held, utf8::judge(name), setup) {
+        Ok(n) => accepted(m, ram, journal, held, name, n, setup),
+        Err(why) => Report {
+            result: Err(why),
+            held,
+            machine: m,
+        },
     }
-    let Judged::Fine(n) = j else {
-        return refused(m, held, number);
-    };
-    accepted(m, ram, journal, held, name, n, setup)
 }
 
 // A pen by its line. The heads are of `manifests`: they make a look-up quick, and empty ones have every line looked through.

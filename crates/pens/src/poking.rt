@@ -1,16 +1,13 @@
 // A name poked: its single bytes in rising order, the closing 0 last.
-ghost use Rattle.std.specs.Prelude.{ℕ, ◌+◌, ◌≤◌, ◌≡◌, List, [], ◌∷◌, ◌++◌, drop};
-ghost use Rattle.std.proofs.Math.Option.{some};
+ghost use Rattle.std.specs.Prelude.{ℕ, ◌+◌, ◌≤◌, ◌≡◌, List, [], ◌∷◌, ◌++◌, drop, Some, Ok};
 ghost use Rattle.calls.specs.Calls.{world_of};
 ghost use Rattle.utf8.specs.Utf8.{points};
 ghost use Rattle.utf8.specs.Latin.{judged_of, latin_of};
-ghost use Rattle.utf8.specs.declared.Judged.TheVariants.{Fine};
 ghost use Rattle.pens.specs.Pen.{pokings, made};
 
 use crate::giving;
 use calls::state::Machine;
 use machine::Call;
-use utf8::Letter;
 
 // A single byte, and where the name goes on.
 #[derive(Clone, Copy)]
@@ -21,15 +18,15 @@ struct Single {
 
 // The single byte of the letter that begins at a place.
 fn single_at(name: &[u8], i: usize) -> Single
-    ensures { (c : ℕ) (s : List ℕ) → points (drop i name.now) ≡ some (c ∷ s) → c ≤ 255
-        → (result.byte ≡ c) × (points (drop result.next name.now) ≡ some s) }
+    ensures { (c : ℕ) (s : List ℕ) → points (drop i name.now) ≡ Some (c ∷ s) → c ≤ 255
+        → (result.byte ≡ c) × (points (drop result.next name.now) ≡ Some s) }
 {
     match utf8::letter_at(name, i) {
-        Letter::Is { point, length } => Single {
-            byte: (point % 256) as u8,
-            next: i + length,
+        Some(letter) => Single {
+            byte: (letter.point % 256) as u8,
+            next: i + letter.length,
         },
-        Letter::Bad => Single { byte: 0, next: i },
+        None => Single { byte: 0, next: i },
     }
 }
 
@@ -42,7 +39,7 @@ pub fn poke_name(
     n: usize,
     at: u16,
 ) -> Machine
-    requires { (judged_of name.now ≡ Fine n) × (at + (n + 1) ≤ 65536) }
+    requires { (judged_of name.now ≡ Ok n) × (at + (n + 1) ≤ 65536) }
     ensures { world_of result ram.new journal.new
         ≡ made (pokings at (latin_of name.now ++ (0 ∷ []))) (world_of m ram.old journal.old) }
 {

@@ -6,7 +6,7 @@ ghost use Rattle.watched.specs.Code.{Watches};
 ghost use Rattle.pens.specs.Pen.{matching, reported};
 ghost use Rattle.pens.specs.Code.{report_as, report_of};
 
-use crate::{Report, giving};
+use crate::{Report, Run, giving};
 use calls::state::Machine;
 use entries::Entry;
 use manifests::Held;
@@ -27,7 +27,7 @@ fn matched(m: Machine, ram: &mut [u8], journal: &mut [u16], stop: u16, budget: u
 }
 
 // What a run tells of a pen.
-fn told_of(held: Held, r: Watched) -> Report
+fn told_of(held: Option<Held>, r: Watched) -> Report
     ensures { result ≡ report_of held r }
 {
     let told = r.told;
@@ -35,18 +35,25 @@ fn told_of(held: Held, r: Watched) -> Report
     let regs = m.cpu.regs;
     let ending = told.ending;
     Report {
-        number: 0,
+        result: Ok(Run {
+            r0: regs[0],
+            steps: told.steps,
+            bus: told.bus,
+            ending,
+        }),
         held,
-        r0: regs[0],
-        steps: told.steps,
-        bus: told.bus,
-        ending,
         machine: m,
     }
 }
 
 // The run of a machine that stands ready.
-pub fn run(m: Machine, ram: &mut [u8], journal: &mut [u16], held: Held, setup: &[u16]) -> Report
+pub fn run(
+    m: Machine,
+    ram: &mut [u8],
+    journal: &mut [u16],
+    held: Option<Held>,
+    setup: &[u16],
+) -> Report
     ensures { reported held (matching setup.now (world_of m ram.old journal.old)) ≡ report_as result ram.new journal.new }
 {
     let stop = giving::word_at(setup, 1);

@@ -1,8 +1,14 @@
-use Rattle.calls.specs.Calls.{world_of}
-use Rattle.pens.proofs.Checks.{number-as}
+use Rattle.std.proofs.Common.{ℕ, length, ap, ◌∙◌}
+use Rattle.watched.specs.Answer.{or_else}
+use Rattle.pens.specs.Pen.{address_in, name_check}
 use Rattle.pens.proofs.pen_check.Goals as goal
 
 pub returns : goal.returns
-returns c = let a = c.args in
-    number-as a.held a.j a.setup.now (world_of a.m a.ram.now a.journal.now) c.or_else.result c.refusal.result c.name_check-own.result
-    c.word_at.result c.or_else.ensures c.refusal.ensures c.name_check-own.ensures c.word_at.ensures
+returns c =
+    let a = c.args in
+    record {
+      number = c.name_check.ensures.number
+          ∙ ap (λ (x : ℕ). name_check a.held a.judged x (length a.ram.now)) c.word_at.ensures
+          ∙ ap (λ (x : ℕ). or_else x (name_check a.held a.judged (address_in a.setup.now) (length a.ram.now))) c.in_ok-refusal.ensures;
+      letters = c.name_check.ensures.letters;
+    }

@@ -1,10 +1,10 @@
-use mathlib.Core.Path.{◌∙◌, ap}
-use Rattle.calls.specs.Calls.{world_of}
+use Rattle.std.proofs.Common.{ℕ, cond, sym, ap, ◌∙◌}
 use Rattle.watched.specs.Answer.{or_else}
-use Rattle.pens.proofs.Checks.{first_of}
+use Rattle.pens.specs.Pen.{given_in, all_registers}
+use Rattle.pens.proofs.Checks.{passed}
 use Rattle.pens.proofs.refusal.Goals as goal
 
 pub returns : goal.returns
-returns c = let a = c.args in
-    first_of a.setup.now (world_of a.m a.ram.now a.journal.now) c.are_registers.result c.check.result c.or_else.result
-    c.are_registers.ensures c.check.ensures (c.or_else.ensures ∙ ap (or_else c.check.result) c.register_check-six.ensures)
+returns c =
+    c.register_check.ensures
+    ∙ ap (λ (x : ℕ). or_else x (cond (all_registers (given_in c.args.setup.now)) 0 6)) (sym (passed c.check.result c.in_ok-map_err.ensures.variant) ∙ c.check.ensures)

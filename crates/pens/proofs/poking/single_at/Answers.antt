@@ -5,14 +5,14 @@ use Rattle.pens.proofs.Lettered.{singles-letter, singles-bad}
 use Rattle.pens.proofs.poking.single_at.Goals as goal
 
 pub overflow_add-result : goal.overflow_add-result
-overflow_add-result c = let g = c.in-Is in let a = c.args in
-    let h = stays_within a.name.now a.i g.point g.length (sym c.letter_at.ensures ∙ g.is) in
+overflow_add-result c = let g = c.in-Some.letter in let a = c.args in
+    let h = stays_within a.name.now a.i g.point g.length (sym c.letter_at.ensures ∙ c.in-Some.is) in
     omega (arith, h)
 
-pub returns-in-Is : goal.returns-in-Is
-returns-in-Is c = let g = c.in-Is in let a = c.args in
-    singles-letter a.name.now a.i g.point g.length (sym c.letter_at.ensures ∙ g.is)
+pub returns-in-Some : goal.returns-in-Some
+returns-in-Some c = let g = c.in-Some.letter in let a = c.args in
+    singles-letter a.name.now a.i g.point g.length (sym c.letter_at.ensures ∙ c.in-Some.is)
 
-pub returns-in-Bad : goal.returns-in-Bad
-returns-in-Bad c = let a = c.args in
-    singles-bad a.name.now a.i 0 a.i (sym c.letter_at.ensures ∙ c.in-Bad.is)
+pub returns-in-None : goal.returns-in-None
+returns-in-None c = let a = c.args in
+    singles-bad a.name.now a.i 0 a.i (sym c.letter_at.ensures ∙ c.in-None.is)
