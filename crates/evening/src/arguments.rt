@@ -1,31 +1,85 @@
 // What the bench is started with: pens --at ADDR --stop ADDR [--budget N] [--set REG=VALUE].. [--ram N] [--slots N] [--protect FIRST LAST] FIRMWARE PENS TODAY LASTGOOD
-ghost use Rattle.std.specs.Prelude.{◌≤◌, ◌<◌};
+ghost use Rattle.std.specs.Prelude.{◌<◌};
 
 use crate::given;
-use console::arguments::{argument, count};
-use console::{texts, version, words};
+use console::arguments::{Bad, Board, Shared, argument, count, following, next, number};
+use console::{version, words};
 use night::notes;
 
 // Where the last register stands that can be given: the setup has three words before the first, and two for each of 64.
 const LAST: usize = 129;
 
+// The arguments that name the files.
 #[derive(Clone, Copy)]
-pub struct Settings {
-    pub ram: usize,
-    pub words: usize,
-    // The protected addresses; a first above the last means none.
-    pub first: u16,
-    pub last: u16,
-    // How many words of the setup are in use.
-    pub setup: usize,
-    // The arguments that name the files; 0 is none.
+pub struct Paths {
     pub firmware: usize,
     pub pens: usize,
     pub today: usize,
     pub last_good: usize,
-    has_at: bool,
-    has_stop: bool,
-    pub is_good: bool,
+}
+
+// The setup is where a pen's name is poked, where its run stops, the most steps of a run, and then a number and a content for each register that is given.
+#[derive(Clone, Copy)]
+pub struct Settings<'a> {
+    pub board: Board,
+    pub setup: &'a [u16],
+    pub paths: Paths,
+}
+
+// What is known of them as argument follows argument; the registers stand in the room for the setup, up to `end`.
+#[derive(Clone, Copy)]
+struct Known {
+    board: Board,
+    at: Option<u16>,
+    stop: Option<u16>,
+    budget: u16,
+    end: usize,
+    paths: [Option<usize>; 4],
+}
+
+#[derive(Clone, Copy)]
+enum Given {
+    At,
+    Stop,
+    Budget,
+    Register,
+    Shared(Shared),
+    // Another word that begins with a minus sign.
+    Strange,
+    File,
+}
+
+static OPTIONS: [(&[u8], Given); 4] = [
+    (b"--at", Given::At),
+    (b"--stop", Given::Stop),
+    (b"--budget", Given::Budget),
+    (b"--set", Given::Register),
+];
+
+impl Given {
+    fn named(word: &[u8]) -> Given {
+        for (name, given) in &OPTIONS {
+            if words::is_name(word, name) {
+                return *given;
+            }
+        }
+        match Shared::named(word) {
+            Some(option) => Given::Shared(option),
+            None if word.starts_with(b"-") => Given::Strange,
+            None => Given::File,
+        }
+    }
+
+    // With what follows it: how many arguments they are.
+    fn taken(self) -> usize
+        ensures { 0 < result }
+    {
+        match self {
+            Given::Shared(option) => option.taken(),
+            Given::File => 1,
+            _ => 2,
+        }
+    }
 }
 
 fn usage(to: &impl Print) {
@@ -36,33 +90,13 @@ fn usage(to: &impl Print) {
     );
 }
 
-// The bench is not to start.
-fn ended(s: Settings) -> Settings {
-    let mut e = s;
-    e.is_good = false;
-    e
-}
-
-fn bad(rt: &HostRuntime, s: Settings, what: &[u8], i: usize) -> Settings {
+fn told(rt: &HostRuntime, bad: Bad) {
     let mut room = io::buffer();
-    let n = argument(rt, i, &mut room);
-    notes::complain(rt, what, words::front(&room, n));
+    notes::complain(rt, bad.what, argument(rt, bad.at, &mut room));
     usage(&rt.stderr());
-    ended(s)
 }
 
-fn missing(rt: &HostRuntime, s: Settings, what: &[u8]) -> Settings {
-    notes::say(rt, what);
-    usage(&rt.stderr());
-    ended(s)
-}
-
-fn told_version(rt: &HostRuntime, s: Settings) -> Settings {
-    version::show(rt);
-    ended(s)
-}
-
-fn told_help(rt: &HostRuntime, s: Settings) -> Settings {
+fn told_help(rt: &HostRuntime) {
     version::show(rt);
     usage(rt);
     report::text(
@@ -82,279 +116,173 @@ fn told_help(rt: &HostRuntime, s: Settings) -> Settings {
     LASTGOOD              the last good manifest, in which a pen is looked up that today's has not
 ",
     );
-    ended(s)
+}
+
+// The number in an argument.
+fn word(rt: &HostRuntime, what: &'static [u8], i: usize) -> Result<u16, Bad> {
+    number(rt, i, given::unsigned).ok_or(Bad { what, at: i })
 }
 
 fn store(setup: &mut [u16], i: usize, word: u16) {
-    if i < setup.len() {
-        setup[i] = word;
+    if let Some(place) = setup.get_mut(i) {
+        *place = word;
     }
 }
 
-// The number in an argument, or 65,536 where there is none in it.
-fn number_in(rt: &HostRuntime, i: usize) -> u32 {
+// A register more.
+fn with_register(rt: &HostRuntime, k: Known, setup: &mut [u16], i: usize) -> Result<Known, Bad> {
     let mut room = io::buffer();
-    let n = argument(rt, i, &mut room);
-    given::bits(words::front(&room, n), false)
+    let Some(pair) = given::read(argument(rt, i, &mut room)) else {
+        return Err(Bad {
+            what: b"--set needs REG=VALUE, as r1=0x300",
+            at: i,
+        });
+    };
+    if LAST < k.end {
+        return Err(Bad {
+            what: b"no more than 64 registers can be given",
+            at: i,
+        });
+    }
+    store(setup, k.end, pair.register);
+    store(setup, k.end + 1, pair.content);
+    Ok(Known {
+        end: k.end + 2,
+        ..k
+    })
 }
 
-// A word of the setup.
-fn with_word(
-    rt: &HostRuntime,
-    s: Settings,
-    setup: &mut [u16],
-    place: usize,
-    what: &[u8],
-    i: usize,
-) -> Settings {
-    let n = number_in(rt, i);
-    if 65535 < n {
-        return bad(rt, s, what, i);
-    }
-    store(setup, place, n as u16);
-    s
-}
-
-fn with_at(rt: &HostRuntime, s: Settings, setup: &mut [u16], i: usize) -> Settings {
-    let mut e = with_word(rt, s, setup, 0, b"--at needs an address from 0 to 65535", i);
-    e.has_at = true;
-    e
-}
-
-fn with_stop(rt: &HostRuntime, s: Settings, setup: &mut [u16], i: usize) -> Settings {
-    let mut e = with_word(
-        rt,
-        s,
-        setup,
-        1,
-        b"--stop needs an address from 0 to 65535",
-        i,
-    );
-    e.has_stop = true;
-    e
-}
-
-fn bad_pair(rt: &HostRuntime, s: Settings, i: usize) -> Settings {
-    bad(rt, s, b"--set needs REG=VALUE, as r1=0x300", i)
-}
-
-// Two words more.
-fn with_pair(rt: &HostRuntime, s: Settings, setup: &mut [u16], word: &[u8], i: usize) -> Settings {
-    let p = given::read(word);
-    let register = p.register;
-    let content = p.content;
-    let n = s.setup;
-    if 65535 < register {
-        return bad_pair(rt, s, i);
-    }
-    if 65535 < content {
-        return bad_pair(rt, s, i);
-    }
-    if LAST < n {
-        return bad(rt, s, b"no more than 64 registers can be given", i);
-    }
-    store(setup, n, register as u16);
-    store(setup, n + 1, content as u16);
-    let mut e = s;
-    e.setup = n + 2;
-    e
-}
-
-fn with_register(rt: &HostRuntime, s: Settings, setup: &mut [u16], i: usize) -> Settings {
-    let mut room = io::buffer();
-    let n = argument(rt, i, &mut room);
-    with_pair(rt, s, setup, words::front(&room, n), i)
-}
-
-fn with_ram(rt: &HostRuntime, s: Settings, i: usize) -> Settings {
-    let n = number_in(rt, i);
-    if 65504 < n {
-        return bad(rt, s, b"--ram needs a number of bytes from 0 to 65504", i);
-    }
-    let mut e = s;
-    e.ram = n as usize;
-    e
-}
-
-fn with_slots(rt: &HostRuntime, s: Settings, i: usize) -> Settings {
-    let n = number_in(rt, i);
-    if 1024 < n {
-        return bad(rt, s, b"--slots needs a number from 0 to 1024", i);
-    }
-    let mut e = s;
-    e.words = n as usize * 32;
-    e
-}
-
-fn bad_stretch(rt: &HostRuntime, s: Settings, i: usize) -> Settings {
-    bad(
-        rt,
-        s,
-        b"--protect needs a first and a last address from 0 to 65535",
-        i,
-    )
-}
-
-fn with_stretch(rt: &HostRuntime, s: Settings, i: usize) -> Settings {
-    let first = number_in(rt, i);
-    let last = number_in(rt, next(i));
-    if 65535 < first {
-        return bad_stretch(rt, s, i);
-    }
-    if 65535 < last {
-        return bad_stretch(rt, s, next(i));
-    }
-    let mut e = s;
-    e.first = first as u16;
-    e.last = last as u16;
-    e
-}
-
-fn with_file(rt: &HostRuntime, s: Settings, i: usize) -> Settings {
-    let mut e = s;
-    if s.firmware == 0 {
-        e.firmware = i;
-        return e;
-    }
-    if s.pens == 0 {
-        e.pens = i;
-        return e;
-    }
-    if s.today == 0 {
-        e.today = i;
-        return e;
-    }
-    if s.last_good == 0 {
-        e.last_good = i;
-        return e;
-    }
-    bad(rt, s, b"there are more than four files", i)
-}
-
-// Which option a word is: its line here; 10 is another that begins with a minus sign, 255 none.
-fn option_in(word: &[u8]) -> u8 {
-    let n = texts::find(
-        b"--at\n--stop\n--budget\n--set\n--ram\n--slots\n--protect\n--version\n--help\n-h\n",
-        10,
-        word,
-    );
-    if (n == 255) & (words::byte_at(word, 0) == b'-') {
-        return 10;
-    }
-    n
-}
-
-fn option(rt: &HostRuntime, i: usize) -> u8 {
-    let mut room = io::buffer();
-    let n = argument(rt, i, &mut room);
-    option_in(words::front(&room, n))
+fn with_file(k: Known, i: usize) -> Result<Known, Bad> {
+    let paths = match k.paths {
+        [None, ..] => [Some(i), None, None, None],
+        [a, None, ..] => [a, Some(i), None, None],
+        [a, b, None, _] => [a, b, Some(i), None],
+        [a, b, c, None] => [a, b, c, Some(i)],
+        _ => {
+            return Err(Bad {
+                what: b"there are more than four files",
+                at: i,
+            });
+        }
+    };
+    Ok(Known { paths, ..k })
 }
 
 // One argument that does not follow an option.
-fn with_argument(rt: &HostRuntime, s: Settings, setup: &mut [u16], kind: u8, i: usize) -> Settings {
-    match kind {
-        0 => with_at(rt, s, setup, next(i)),
-        1 => with_stop(rt, s, setup, next(i)),
-        2 => with_word(
-            rt,
-            s,
-            setup,
-            2,
-            b"--budget needs a number of steps from 0 to 65535",
-            next(i),
-        ),
-        3 => with_register(rt, s, setup, next(i)),
-        4 => with_ram(rt, s, next(i)),
-        5 => with_slots(rt, s, next(i)),
-        6 => with_stretch(rt, s, next(i)),
-        7 => told_version(rt, s),
-        8 | 9 => told_help(rt, s),
-        10 => bad(rt, s, b"there is no such option", i),
-        _ => with_file(rt, s, i),
+fn with_argument(
+    rt: &HostRuntime,
+    k: Known,
+    setup: &mut [u16],
+    given: Given,
+    i: usize,
+) -> Result<Known, Bad> {
+    let mut more = k;
+    match given {
+        Given::At => more.at = Some(word(rt, b"--at needs an address from 0 to 65535", next(i))?),
+        Given::Stop => {
+            more.stop = Some(word(rt, b"--stop needs an address from 0 to 65535", next(i))?);
+        }
+        Given::Budget => {
+            let what = b"--budget needs a number of steps from 0 to 65535";
+            more.budget = word(rt, what, next(i))?;
+        }
+        Given::Register => return with_register(rt, k, setup, next(i)),
+        Given::Shared(option) => more.board = k.board.with(rt, option, i, given::unsigned)?,
+        Given::Strange => {
+            return Err(Bad {
+                what: b"there is no such option",
+                at: i,
+            });
+        }
+        Given::File => return with_file(k, i),
     }
+    Ok(more)
 }
 
-fn next(i: usize) -> usize {
-    if i < 1000000 {
-        return i + 1;
+// What is known with one argument more; None where the bench is not to start, which is told.
+fn taken(rt: &HostRuntime, k: Known, setup: &mut [u16], given: Given, i: usize) -> Option<Known> {
+    match given {
+        Given::Shared(Shared::Version) => version::show(rt),
+        Given::Shared(Shared::Help) => told_help(rt),
+        _ => match with_argument(rt, k, setup, given, i) {
+            Ok(more) => return Some(more),
+            Err(bad) => told(rt, bad),
+        },
     }
-    i
+    None
 }
 
-// An option with what follows it: how many arguments they are.
-fn taken(kind: u8) -> usize
-    ensures { 0 < result }
-{
-    match kind {
-        6 => 3,
-        255 => 1,
-        _ => 2,
-    }
+// What has to be given.
+#[derive(Clone, Copy)]
+struct Whole {
+    front: [u16; 3],
+    paths: Paths,
 }
 
-// The next argument that does not follow an option.
-fn following(i: usize, n: usize, kind: u8) -> usize
-    requires { i < n }
-    ensures { (i < result) × (result ≤ n) }
-{
-    let k = taken(kind);
-    if k < n - i {
-        return i + k;
-    }
-    n
+fn completed(k: Known) -> Result<Whole, &'static [u8]> {
+    let Some(at) = k.at else {
+        return Err(b"--at is needed: where each pen's name is poked");
+    };
+    let Some(stop) = k.stop else {
+        return Err(b"--stop is needed: where the matching routine is done");
+    };
+    let [Some(firmware), Some(pens), Some(today), Some(last_good)] = k.paths else {
+        return Err(b"four files are needed: FIRMWARE PENS TODAY LASTGOOD");
+    };
+    Ok(Whole {
+        front: [at, stop, k.budget],
+        paths: Paths {
+            firmware,
+            pens,
+            today,
+            last_good,
+        },
+    })
 }
 
-fn whole(rt: &HostRuntime, s: Settings) -> Settings {
-    if !s.has_at {
-        return missing(rt, s, b"--at is needed: where each pen's name is poked");
-    }
-    if !s.has_stop {
-        return missing(
-            rt,
-            s,
-            b"--stop is needed: where the matching routine is done",
-        );
-    }
-    if s.last_good == 0 {
-        return missing(
-            rt,
-            s,
-            b"four files are needed: FIRMWARE PENS TODAY LASTGOOD",
-        );
-    }
-    s
+fn given_at(rt: &HostRuntime, i: usize) -> Given {
+    let mut room = io::buffer();
+    Given::named(argument(rt, i, &mut room))
 }
 
-fn beginning(setup: &mut [u16]) -> Settings {
-    store(setup, 2, 65535);
-    Settings {
-        ram: 30000,
-        words: 32768,
-        first: 1,
-        last: 0,
-        setup: 3,
-        firmware: 0,
-        pens: 0,
-        today: 0,
-        last_good: 0,
-        has_at: false,
-        has_stop: false,
-        is_good: true,
-    }
-}
-
-// The settings; the setup's words are put into the room for them.
-pub fn read(rt: &HostRuntime, setup: &mut [u16]) -> Settings {
-    let mut s = beginning(setup);
+// All arguments, one after the other.
+fn gathered(rt: &HostRuntime, setup: &mut [u16]) -> Option<Known> {
+    let mut k = Known {
+        board: Board::new(),
+        at: None,
+        stop: None,
+        budget: 65535,
+        end: 3,
+        paths: [None; 4],
+    };
     let n = count(rt);
     let mut i: usize = 1;
     while i < n {
-        let kind = option(rt, i);
-        s = with_argument(rt, s, setup, kind, i);
-        if !s.is_good {
-            return s;
-        }
-        i = following(i, n, kind);
+        let given = given_at(rt, i);
+        k = taken(rt, k, setup, given, i)?;
+        i = following(i, n, given.taken());
     }
-    whole(rt, s)
+    Some(k)
+}
+
+// The settings, with the setup in the room for it; None where the bench is not to start, and why was said.
+pub fn read<'a>(rt: &HostRuntime, room: &'a mut [u16]) -> Option<Settings<'a>> {
+    let k = gathered(rt, room)?;
+    match completed(k) {
+        Ok(all) => {
+            for (place, word) in room.iter_mut().zip(all.front) {
+                *place = word;
+            }
+            Some(Settings {
+                board: k.board,
+                setup: room.get(..k.end).unwrap_or(&[]),
+                paths: all.paths,
+            })
+        }
+        Err(what) => {
+            notes::say(rt, what);
+            usage(&rt.stderr());
+            None
+        }
+    }
 }

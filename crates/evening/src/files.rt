@@ -1,57 +1,35 @@
 // Files that are read whole, and what is wrong with them.
-use console::files::name;
-use console::{arguments, words};
+use console::files::{name, reason};
+use console::values::Said;
+use console::{arguments, values, words};
 use night::notes;
 use report::input::read_full;
 use std::fs::File;
-use std::io::{Error, ErrorKind, Read, Result};
-
-// The system's numbers of the reasons that have words of their own. An error's kind would not do: EPERM is of one kind with EACCES.
-const ENOENT: i32 = 2;
-
-const EACCES: i32 = 13;
-
-const EISDIR: i32 = 21;
-
-// How many bytes of a file stand in the room.
-#[derive(Clone, Copy)]
-pub struct Bytes {
-    pub length: usize,
-    pub is_good: bool,
-}
-
-fn none() -> Bytes {
-    Bytes {
-        length: 0,
-        is_good: false,
-    }
-}
+use std::io::{Error, ErrorKind, Read, Result as IoResult};
 
 // Why a file could not be opened or read.
-fn unread(rt: &HostRuntime, error: &Error, path: &[u8]) -> Bytes {
-    reason(rt, error, path);
-    none()
+fn unread(rt: &HostRuntime, error: &Error, path: &[u8]) -> Said {
+    let why = reason(
+        error,
+        b"this file may not be read by you",
+        b"the file cannot be read",
+    );
+    notes::complain(rt, why, path);
+    Said
 }
 
-fn reason(rt: &HostRuntime, error: &Error, path: &[u8]) {
-    let number = error.raw_os_error().unwrap_or(0);
-    if number == ENOENT {
-        notes::complain(rt, b"there is no such file", path);
-        return;
-    }
-    if number == EACCES {
-        notes::complain(rt, b"this file may not be read by you", path);
-        return;
-    }
-    if number == EISDIR {
-        notes::complain(rt, b"this is a folder, not a file", path);
-        return;
-    }
-    notes::complain(rt, b"the file cannot be read", path);
+fn too_long(rt: &HostRuntime, path: &[u8], most: usize) -> Said {
+    notes::begin(rt);
+    report::text(&rt.stderr(), b"the file has more than ");
+    report::decimal(&rt.stderr(), most as u64);
+    report::text(&rt.stderr(), b" bytes: ");
+    values::show(&rt.stderr(), path);
+    notes::end(rt);
+    Said
 }
 
 // Whether nothing more is to be read. What a read cannot get is not the end, and its reason is told.
-fn at_end(file: &mut File) -> Result<()> {
+fn at_end(file: &mut File) -> IoResult<()> {
     let mut one = [0u8; 1];
     match file.read(&mut one) {
         Ok(0) => Ok(()),
@@ -60,71 +38,59 @@ fn at_end(file: &mut File) -> Result<()> {
     }
 }
 
-fn too_long(rt: &HostRuntime, path: &[u8], most: usize) -> Bytes {
-    notes::begin(rt);
-    notes::text(rt, b"the file has more than ");
-    notes::decimal(rt, most as u64);
-    notes::text(rt, b" bytes: ");
-    notes::show(rt, path);
-    notes::end(rt);
-    none()
-}
-
-// All of an open file. The room has one byte more than the file may have.
-fn contents(rt: &HostRuntime, file: &mut File, path: &[u8], out: &mut [u8]) -> Bytes {
+// All of an open file: how many bytes. The room has one byte more than the file may have.
+fn contents(rt: &HostRuntime, file: &mut File, path: &[u8], out: &mut [u8]) -> Result<usize, Said> {
     let n = read_full(file, out);
-    let room = out.len();
-    if room == 0 {
-        return none();
-    }
-    if n == room {
-        return too_long(rt, path, room - 1);
+    if n == out.len() {
+        return Err(too_long(rt, path, n.saturating_sub(1)));
     }
     match at_end(file) {
-        Ok(()) => Bytes {
-            length: n,
-            is_good: true,
-        },
-        Err(e) => unread(rt, &e, path),
+        Ok(()) => Ok(n),
+        Err(e) => Err(unread(rt, &e, path)),
     }
 }
 
-fn open(rt: &HostRuntime, path: &[u8]) -> Result<File> {
+fn open(rt: &HostRuntime, path: &[u8]) -> IoResult<File> {
     File::open(rt, name(path)?)
 }
 
-fn read_path(rt: &HostRuntime, path: &[u8], out: &mut [u8]) -> Bytes {
+fn read_path(rt: &HostRuntime, path: &[u8], out: &mut [u8]) -> Result<usize, Said> {
     match open(rt, path) {
         Ok(mut file) => contents(rt, &mut file, path, out),
-        Err(e) => unread(rt, &e, path),
+        Err(e) => Err(unread(rt, &e, path)),
     }
 }
 
-// The file that an argument names.
-pub fn read(rt: &HostRuntime, argument: usize, out: &mut [u8]) -> Bytes {
-    let mut path = io::buffer();
-    let n = arguments::argument(rt, argument, &mut path);
-    if n == 0 {
+// The bytes of the file that an argument names, in the room.
+pub fn read<'a>(rt: &HostRuntime, argument: usize, out: &'a mut [u8]) -> Result<&'a [u8], Said> {
+    let mut room = io::buffer();
+    let path = arguments::argument(rt, argument, &mut room);
+    if path.is_empty() {
         notes::say(rt, b"the name of a file is empty, or too long");
-        return none();
+        return Err(Said);
     }
-    read_path(rt, words::front(&path, n), out)
+    let n = read_path(rt, path, out)?;
+    Ok(words::front(out, n))
 }
 
 // What is said of the file that an argument names.
 pub fn complain(rt: &HostRuntime, what: &[u8], argument: usize) {
-    let mut path = io::buffer();
-    let n = arguments::argument(rt, argument, &mut path);
-    notes::complain(rt, what, words::front(&path, n));
+    let mut room = io::buffer();
+    let path = arguments::argument(rt, argument, &mut room);
+    notes::complain(rt, what, path);
 }
 
 // A file of lines. One without lines is mentioned.
-pub fn read_lines(rt: &HostRuntime, argument: usize, out: &mut [u8]) -> Bytes {
-    let c = read(rt, argument, out);
-    if c.is_good & (c.length == 0) {
+pub fn read_lines<'a>(
+    rt: &HostRuntime,
+    argument: usize,
+    out: &'a mut [u8],
+) -> Result<&'a [u8], Said> {
+    let lines = read(rt, argument, out)?;
+    if lines.is_empty() {
         complain(rt, b"the file is empty", argument);
     }
-    c
+    Ok(lines)
 }
 
 // Whether lines can be written; where not, that is said.

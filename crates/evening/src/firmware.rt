@@ -2,9 +2,8 @@
 ghost use Rattle.std.specs.Prelude.{◌≡◌, length};
 
 use crate::files;
-use console::{rows, words};
+use console::values::Said;
 use image::header;
-use image::header::Header;
 
 // Where an image's bytes stand in the room, behind its header.
 const FIRST: usize = 5;
@@ -16,43 +15,35 @@ fn room() -> [u8; 65542]
     [0u8; 65542]
 }
 
-fn is_within(at: u16, n: usize, ram: usize) -> bool {
-    let a = at as usize;
-    if ram < a {
-        return false;
-    }
-    n <= ram - a
-}
-
-fn placed(rt: &HostRuntime, at: u16, bytes: &[u8], argument: usize, ram: &mut [u8]) -> bool {
-    if !is_within(at, bytes.len(), ram.len()) {
+fn placed(
+    rt: &HostRuntime,
+    at: u16,
+    bytes: &[u8],
+    argument: usize,
+    ram: &mut [u8],
+) -> Result<(), Said> {
+    let from = usize::from(at);
+    let to = from + bytes.len();
+    if ram.len() < to {
         files::complain(rt, b"not all of its bytes would be in RAM", argument);
-        return false;
+        return Err(Said);
     }
-    rows::put_all(ram, at as usize, bytes);
-    true
+    let place = &mut ram[from..to];
+    place.copy_from_slice(bytes);
+    Ok(())
 }
 
-fn checked(rt: &HostRuntime, image: &[u8], argument: usize, ram: &mut [u8]) -> bool {
-    match header::read_header(image) {
-        Header::Bad => {
-            files::complain(
-                rt,
-                b"no header of four hexadecimal digits and a newline",
-                argument,
-            );
-            false
-        }
-        Header::At(at) => placed(rt, at, words::rest(image, FIRST), argument, ram),
-    }
-}
-
-// The image that an argument names. Whether all went well.
-pub fn load(rt: &HostRuntime, argument: usize, ram: &mut [u8]) -> bool {
+// The image that an argument names, in RAM.
+pub fn load(rt: &HostRuntime, argument: usize, ram: &mut [u8]) -> Result<(), Said> {
     let mut out = room();
-    let c = files::read(rt, argument, &mut out);
-    if !c.is_good {
-        return false;
-    }
-    checked(rt, words::front(&out, c.length), argument, ram)
+    let image = files::read(rt, argument, &mut out)?;
+    let Some(at) = header::read_header(image) else {
+        files::complain(
+            rt,
+            b"no header of four hexadecimal digits and a newline",
+            argument,
+        );
+        return Err(Said);
+    };
+    placed(rt, at, image.get(FIRST..).unwrap_or(b""), argument, ram)
 }

@@ -1,88 +1,59 @@
 // A register that is set before each pen: REG=VALUE
-ghost use Rattle.std.specs.Prelude.{◌≤◌, length};
-
-use console::words;
 use lexis::numbers;
-use lexis::numbers::Read;
-use names::register::{FoundReg, Reg};
+use names::register::Reg;
 use night::notes;
 
-// Stands for a word that is no number.
-pub const NOT: u32 = 65536;
-
 // A number of 16 bits, with a sign only where it may have one.
-pub fn bits(word: &[u8], is_signed: bool) -> u32 {
-    if let Read::Is(v) = numbers::number(word) {
-        if is_signed | !v.negative {
-            return v.bits as u32;
-        }
+fn bits(word: &[u8], is_signed: bool) -> Option<u16> {
+    match numbers::number(word) {
+        Ok(v) if is_signed | !v.negative => Some(v.bits),
+        _ => None,
     }
-    NOT
+}
+
+// A number without a sign.
+pub fn unsigned(word: &[u8]) -> Option<u16> {
+    bits(word, false)
 }
 
 // A register by its name, or by a number, of which the library says whether there is such a register.
-fn register(word: &[u8]) -> u32 {
+fn register(word: &[u8]) -> Option<u16> {
     match Reg::from_name(word) {
-        FoundReg::Is(r) => r.number as u32,
-        FoundReg::Unknown => bits(word, false),
+        Some(r) => Some(u16::from(r.number)),
+        None => unsigned(word),
     }
-}
-
-// Where the first equals sign stands, or the end.
-fn equals(word: &[u8]) -> usize
-    ensures { result ≤ length word.now }
-{
-    let mut i: usize = 0;
-    while i < word.len() {
-        if word[i] == b'=' {
-            return i;
-        }
-        i += 1;
-    }
-    i
 }
 
 // A register's number and its content.
 #[derive(Clone, Copy)]
 pub struct Pair {
-    pub register: u32,
-    pub content: u32,
+    pub register: u16,
+    pub content: u16,
 }
 
-pub fn read(word: &[u8]) -> Pair {
-    let at = equals(word);
-    if at == word.len() {
-        return Pair {
-            register: NOT,
-            content: NOT,
-        };
-    }
-    Pair {
-        register: register(words::front(word, at)),
-        content: bits(words::rest(word, at + 1), true),
-    }
+pub fn read(word: &[u8]) -> Option<Pair> {
+    let at = word.iter().position(|b| *b == b'=')?;
+    let (name, rest) = word.split_at(at);
+    Some(Pair {
+        register: register(name)?,
+        content: bits(&rest[1..], true)?,
+    })
 }
 
 // The first given number that is no register's.
 fn strange(setup: &[u16]) -> u16 {
-    let mut i: usize = 3;
-    while i < setup.len() {
-        if 15 < setup[i] {
-            return setup[i];
-        }
-        i += 2;
-    }
-    0
+    let mut registers = setup.iter().skip(3).step_by(2).copied();
+    registers.find(|n| 15 < *n).unwrap_or(0)
 }
 
 // What refuses all pens, before the first.
 pub fn refused(rt: &HostRuntime, number: u8, setup: &[u16]) {
     notes::begin(rt);
-    notes::text(rt, b"refused ");
-    notes::decimal(rt, number as u64);
+    report::text(&rt.stderr(), b"refused ");
+    report::decimal(&rt.stderr(), u64::from(number));
     if number == 6 {
-        notes::text(rt, b": there is no register ");
-        notes::decimal(rt, strange(setup) as u64);
+        report::text(&rt.stderr(), b": there is no register ");
+        report::decimal(&rt.stderr(), u64::from(strange(setup)));
     }
     notes::end(rt);
 }

@@ -1,5 +1,5 @@
 use Rattle.std.proofs.Common.{length, ◌-◌, ◌≡◌}
-use Rattle.evening.proofs.arguments.read.Given as goal
+use Rattle.evening.proofs.arguments.gathered.Given as goal
 
 abbrev pub invariant-loop-i : goal.invariant-loop-i
 invariant-loop-i l = length l.setup ≡ length l.initial.setup
