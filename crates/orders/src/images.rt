@@ -2,19 +2,15 @@
 ghost use Rattle.std.specs.Prelude.{◌≡◌, length};
 
 use crate::{Order, stores};
-use console::values::Taken;
-use console::words::Part;
-use console::{arguments, files, paths, rows, values, words};
+use console::rows::Row;
+use console::values::Said;
+use console::{arguments, files, paths, values, words};
 use image::header;
-use image::header::Header;
 use report::input;
 use std::env::Env;
 use std::fs;
-use std::io::{Read, Result, Write};
+use std::io::{Read, Result as IoResult, Write};
 use std::rt::Files;
-
-// Where an image's bytes stand in the room, behind its header.
-pub const FIRST: usize = 5;
 
 // Room for a header, 65,536 bytes, and one more that says that the image is too long. Its `ensures` gives only the length, so that no proof writes the zeros out.
 pub fn room() -> [u8; 65542]
@@ -23,221 +19,182 @@ pub fn room() -> [u8; 65542]
     [0u8; 65542]
 }
 
-// So many bytes of an image in the room.
-pub fn bytes<'a>(room: &'a [u8], n: usize) -> &'a [u8] {
-    words::front(words::rest(room, FIRST), n)
-}
-
 // All of an open file, as far as there is room; that it has no bytes is said.
-fn contents<F: Read + Drop>(rt: &impl Print, file: F, path: &[u8], out: &mut [u8]) -> usize {
+fn contents<'a, F: Read + Drop>(
+    rt: &impl Print,
+    file: F,
+    path: &[u8],
+    out: &'a mut [u8],
+) -> Result<&'a [u8], Said> {
     let mut file = file;
     let n = input::read_full(&mut file, out);
     if n == 0 {
         files::empty(rt, file, path);
-        return 0;
+        return Err(Said);
     }
-    n
+    Ok(words::front(out, n))
 }
 
-// An image's address and the number of its bytes, which stand in the room.
+// An image's address, and its bytes, which stand in the room behind their header.
 #[derive(Clone, Copy)]
-struct Image {
+struct Image<'a> {
     at: u16,
-    length: usize,
-    is_good: bool,
+    bytes: &'a [u8],
 }
 
-fn no_image() -> Image {
-    Image {
-        at: 0,
-        length: 0,
-        is_good: false,
-    }
-}
-
-fn checked(rt: &impl Print, read: &[u8], path: &[u8]) -> Image {
-    let h = header::read_header(read);
-    match h {
-        Header::Bad => {
+fn checked<'a>(rt: &impl Print, read: &'a [u8], path: &[u8]) -> Result<Image<'a>, Said> {
+    match header::read_header(read) {
+        Some(at) => Ok(Image {
+            at,
+            bytes: read.get(5..).unwrap_or(b""),
+        }),
+        None => {
             values::complain(
                 rt,
                 b"no header of four hexadecimal digits and a newline",
                 path,
             );
-            no_image()
+            Err(Said)
         }
-        Header::At(at) => Image {
-            at,
-            length: words::rest(read, FIRST).len(),
-            is_good: true,
-        },
     }
 }
 
-fn read_image(rt: &(impl Print + Files), path: &[u8], out: &mut [u8]) -> Image {
+fn read_image<'a>(
+    rt: &(impl Print + Files),
+    path: &[u8],
+    out: &'a mut [u8],
+) -> Result<Image<'a>, Said> {
     let Some(file) = files::open(rt, path) else {
-        return no_image();
+        return Err(Said);
     };
-    let n = contents(rt, file, path, out);
-    if n == 0 {
-        return no_image();
-    }
-    checked(rt, words::front(out, n), path)
-}
-
-// Whether an image's bytes are all in RAM; where not, that is said.
-fn is_in_ram(rt: &impl Print, at: u16, n: usize, ram: usize, path: &[u8]) -> bool {
-    if stores::is_within(at, n, ram) {
-        return true;
-    }
-    values::complain(rt, b"not all of its bytes would be in RAM", path);
-    false
+    let read = contents(rt, file, path, out)?;
+    checked(rt, read, path)
 }
 
 // The image that is to go to RAM, at its own address or at one that is given.
-fn placed(rt: &(impl Print + Files), path: &[u8], a: Taken, ram: usize, out: &mut [u8]) -> Image {
-    let mut i = read_image(rt, path, out);
-    if a.is_given {
-        i.at = a.value;
+fn placed<'a>(
+    rt: &(impl Print + Files),
+    path: &[u8],
+    given: Option<u16>,
+    ram: usize,
+    out: &'a mut [u8],
+) -> Result<Image<'a>, Said> {
+    let image = read_image(rt, path, out)?;
+    let at = given.unwrap_or(image.at);
+    let n = image.bytes.len();
+    if !stores::is_within(at, n, ram) {
+        values::complain(rt, b"not all of its bytes would be in RAM", path);
+        return Err(Said);
     }
-    if !i.is_good {
-        return i;
-    }
-    if !is_in_ram(rt, i.at, i.length, ram, path) {
-        return no_image();
-    }
-    stores::tell(rt, b"loaded", i.length, i.at);
-    i
+    stores::tell(rt, b"loaded", n, at);
+    Ok(Image {
+        at,
+        bytes: image.bytes,
+    })
 }
 
-// The image that the desk is started with, if any, in memory before the machine starts. Whether all went well.
-pub fn start_image(rt: &(impl Print + Files + Env), argument: usize, ram: &mut [u8]) -> bool {
-    if argument == 0 {
-        return true;
-    }
+// The image that the desk is started with, if any, in memory before the machine starts.
+pub fn start_image(
+    rt: &(impl Print + Files + Env),
+    argument: Option<usize>,
+    ram: &mut [u8],
+) -> Result<(), Said> {
+    let Some(i) = argument else {
+        return Ok(());
+    };
     let mut path = io::buffer();
-    let k = arguments::argument(rt, argument, &mut path);
+    let path = arguments::argument(rt, i, &mut path);
     let mut out = room();
-    let i = placed(
-        rt,
-        words::front(&path, k),
-        values::none(),
-        ram.len(),
-        &mut out,
-    );
-    rows::put_all(ram, i.at as usize, bytes(&out, i.length));
-    i.is_good
+    let image = placed(rt, path, None, ram.len(), &mut out)?;
+    let mut row = Row::new(ram);
+    row.to(image.at as usize);
+    row.put_all(image.bytes);
+    Ok(())
 }
 
 // load FILE [ADDR]
-pub fn load(
+pub fn load<'a>(
     rt: &(impl Print + Files),
     line: &[u8],
-    at: usize,
     ram: usize,
-    out: &mut [u8],
-) -> Order {
+    out: &'a mut [u8],
+) -> Result<Order<'a>, Said> {
     let mut path = io::buffer();
-    let f = paths::name(rt, line, at, &mut path);
-    if f.length == 0 {
-        return Order::Nothing;
-    }
-    let a = values::only(rt, line, f.to, 0);
-    if a.is_bad {
-        return Order::Nothing;
-    }
-    let i = placed(rt, words::front(&path, f.length), a, ram, out);
-    if i.is_good {
-        return Order::Image(i.at, i.length);
-    }
-    Order::Nothing
+    let (n, rest) = paths::name(rt, line, &mut path)?;
+    let at = values::only(rt, rest)?;
+    let image = placed(rt, words::front(&path, n), at, ram, out)?;
+    Ok(Order::Pokes(image.at, image.bytes))
 }
 
 // The header and the bytes, into an open file.
-fn written(file: &mut impl Write, at: u16, saved: &[u8]) -> bool {
-    let mut front = [b'\n'; 5];
-    rows::put_hex(&mut front, 0, at, 4);
-    if file.write_all(&front).is_err() {
-        return false;
-    }
-    file.write_all(saved).is_ok()
+fn write(file: &mut impl Write, at: u16, saved: &[u8]) -> IoResult<()> {
+    let mut room = [0u8; 5];
+    let mut header = Row::new(&mut room);
+    header.put_hex(at, 4);
+    header.put(b'\n');
+    file.write_all(header.bytes())?;
+    file.write_all(saved)
 }
 
 // A file to write to, without the bytes that it had.
-fn created<R: Files>(rt: &R, path: &[u8]) -> Result<R::File> {
+fn created<R: Files>(rt: &R, path: &[u8]) -> IoResult<R::File> {
     fs::create(rt, files::name(path)?)
 }
 
-fn save_to(rt: &(impl Print + Files), path: &[u8], at: u16, saved: &[u8]) {
+fn save_to(rt: &(impl Print + Files), path: &[u8], at: u16, saved: &[u8]) -> Result<(), Said> {
     let mut file = match created(rt, path) {
         Ok(file) => file,
         Err(e) => {
             files::unopened(rt, &e, path);
-            return;
+            return Err(Said);
         }
     };
-    if written(&mut file, at, saved) {
-        stores::tell(rt, b"saved", saved.len(), at);
-    } else {
+    if write(&mut file, at, saved).is_err() {
         values::complain(rt, b"the file could not be written", path);
+        return Err(Said);
+    }
+    stores::tell(rt, b"saved", saved.len(), at);
+    Ok(())
+}
+
+// The size that has to stand after an address, and nothing behind it.
+fn size_given(rt: &impl Print, line: &[u8]) -> Result<u16, Said> {
+    let (size, rest) = values::needed(rt, line, b"a size is needed after the address")?;
+    if values::is_end(rt, rest) {
+        Ok(size)
+    } else {
+        Err(Said)
     }
 }
 
-// How many bytes to save: without a size, or with the size 0, all up to the end of RAM.
-fn size_asked(at: u16, size: u16, ram: usize) -> usize {
-    let a = at as usize;
-    if size != 0 {
-        return size as usize;
+// The bytes to save: without a size, or with the size 0, all up to the end of RAM.
+fn stretch(ram: &[u8], at: u16, size: u16) -> Option<&[u8]> {
+    let rest = ram.get(at as usize..)?;
+    match size {
+        0 => Some(rest),
+        _ => rest.get(..size as usize),
     }
-    if ram < a {
-        return 0;
-    }
-    ram - a
-}
-
-// A size has to stand after an address.
-fn size_given(rt: &impl Print, line: &[u8], a: Taken) -> Taken {
-    if !a.is_given {
-        return a;
-    }
-    let n = values::needed(rt, line, a.to, b"a size is needed after the address");
-    if n.is_bad {
-        return n;
-    }
-    values::only(rt, line, a.to, 0)
-}
-
-fn save_stretch(rt: &(impl Print + Files), path: &[u8], at: u16, n: usize, ram: &[u8]) {
-    let from = at as usize;
-    if from <= ram.len() {
-        if n <= ram.len() - from {
-            let saved = Part { from, to: from + n };
-            save_to(rt, path, at, words::cut(ram, saved));
-            return;
-        }
-    }
-    values::complain(
-        rt,
-        b"not all of these addresses are RAM; nothing was saved",
-        path,
-    );
 }
 
 // save FILE [ADDR SIZE]
-pub fn save(rt: &(impl Print + Files), line: &[u8], at: usize, ram: &[u8]) {
+pub fn save(rt: &(impl Print + Files), line: &[u8], ram: &[u8]) -> Result<(), Said> {
     let mut path = io::buffer();
-    let f = paths::name(rt, line, at, &mut path);
-    if f.length == 0 {
-        return;
+    let (n, rest) = paths::name(rt, line, &mut path)?;
+    let path = words::front(&path, n);
+    let (address, rest) = values::number(rt, rest)?;
+    let (at, size) = match address {
+        Some(at) => (at, size_given(rt, rest)?),
+        None => (0, 0),
+    };
+    match stretch(ram, at, size) {
+        Some(saved) => save_to(rt, path, at, saved),
+        None => {
+            values::complain(
+                rt,
+                b"not all of these addresses are RAM; nothing was saved",
+                path,
+            );
+            Err(Said)
+        }
     }
-    let a = values::number(rt, line, f.to, 0);
-    if a.is_bad {
-        return;
-    }
-    let n = size_given(rt, line, a);
-    if n.is_bad {
-        return;
-    }
-    let size = size_asked(a.value, n.value, ram.len());
-    save_stretch(rt, words::front(&path, f.length), a.value, size, ram);
 }

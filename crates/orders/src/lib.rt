@@ -2,92 +2,123 @@
 #![tactic(auto)]
 
 mod asking;
-mod counts;
 pub mod images;
 mod setting;
 mod stores;
 
-use console::commands;
+use console::commands::Command;
+use console::values::Said;
+use console::{commands, values};
+use names::register::Reg;
+use panel::parts::Part;
+use panel::view::View;
 use panel::{code, registers};
 use std::rt::Files;
 
 // The runs of 65,535 steps after which execute stops by itself.
 pub const RUNS: usize = 100;
 
+// What origin asks about: a byte of memory, or a part of the state.
+#[derive(Clone, Copy)]
+pub enum Asked {
+    Byte(u16),
+    Part(Part),
+}
+
 // Calls on the machine, to be made one after the other; the bytes that they are given stand in the room that the line was read into.
 #[derive(Clone, Copy)]
-pub enum Order {
-    Nothing,
+pub enum Order<'a> {
     Tick(u16),
     Back(u16),
     // A lone step, which a halted machine refuses, and then a run.
     Steps(u16),
-    Run(u16),
-    // Runs until the machine is halted.
-    RunOn,
+    // So many steps, or runs until the machine is halted.
+    Run(Option<u16>),
     // Back to a break or past a watched store: so many records at most, or as many as are held.
-    RunBack(u16),
-    RunBackOn,
+    RunBack(Option<u16>),
     Sent,
     Reset,
-    Set(u8, u16),
-    // So many bytes from the keyboard.
-    Keys(usize),
-    // So many bytes poked from an address on.
-    Pokes(u16, usize),
-    // The same, of an image, which stand behind its header.
-    Image(u16, usize),
+    Set(Reg, u16),
+    // Bytes from the keyboard.
+    Keys(&'a [u8]),
+    // Bytes poked from an address on.
+    Pokes(u16, &'a [u8]),
     // An instruction's two bytes.
-    Code(u16),
-    // Back to before the last change of a byte of memory, or of a part of the state by its number.
-    OriginOfByte(u16),
-    OriginOfPart(u8),
+    Code(u16, &'a [u8]),
+    // Back to before the last change of what is asked about.
+    Origin(Asked),
 }
 
-// The commands that only show something.
-fn shown(
-    rt: &(impl Print + Files),
-    letter: u8,
-    line: &[u8],
-    at: usize,
-    state: &[u16; 32],
-    ram: &[u8],
-) -> Order {
-    match letter {
-        b'c' => registers::csr(rt, state, line, at),
-        b'h' => commands::help(rt, line, at),
-        b'l' => code::list(rt, state, ram, line, at),
-        b'S' => images::save(rt, line, at, ram),
-        b'?' => commands::brief(rt, line, at),
+// The number of times, once where none is given. That it is 0 is said.
+fn times(rt: &impl Print, line: &[u8], of_none: &[u8]) -> Result<u16, Said> {
+    let n = values::only(rt, line)?.unwrap_or(1);
+    if n == 0 {
+        report::text(rt, of_none);
+        return Err(Said);
+    }
+    Ok(n)
+}
+
+// An order behind whose name nothing stands.
+fn bare<'a>(rt: &impl Print, order: Order<'a>, line: &[u8]) -> Result<Order<'a>, Said> {
+    if values::is_end(rt, line) {
+        Ok(order)
+    } else {
+        Err(Said)
+    }
+}
+
+// The commands that only show something; the others are no commands on the machine.
+fn shown(rt: &(impl Print + Files), command: Command, line: &[u8], view: View) -> Result<(), Said> {
+    match command {
+        Command::Csr => registers::csr(rt, view, line),
+        Command::Help => commands::help(rt, line),
+        Command::List => code::list(rt, view, line)?,
+        Command::Save => images::save(rt, line, view.ram)?,
+        Command::Brief => commands::brief(rt, line),
         _ => {}
     }
-    Order::Nothing
+    Ok(())
 }
 
-// The command of a row's letter, of which the line goes on at a place: an arm for each. A letter of no such command asks nothing.
-pub fn read(
+// An arm for each command: what it asks of the machine, if anything.
+fn parsed<'a>(
     rt: &(impl Print + Files),
-    letter: u8,
+    command: Command,
     line: &[u8],
-    at: usize,
-    state: &[u16; 32],
-    ram: &[u8],
-    room: &mut [u8],
-) -> Order {
-    match letter {
-        b'a' => stores::assembled(rt, line, at, ram.len(), room),
-        b'b' => counts::back(rt, line, at),
-        b'k' => stores::keys(rt, line, at, room),
-        b'L' => images::load(rt, line, at, ram.len(), room),
-        b'm' => stores::memset(rt, line, at, ram.len(), room),
-        b'o' => asking::origin(rt, line, at, ram.len()),
-        b'r' => setting::register(rt, line, at, state),
-        b'R' => counts::bare(rt, Order::Reset, line, at),
-        b's' => counts::step(rt, line, at),
-        b't' => counts::bare(rt, Order::Sent, line, at),
-        b'T' => counts::tick(rt, line, at),
-        b'x' => counts::execute(rt, line, at),
-        b'X' => counts::rexecute(rt, line, at),
-        _ => shown(rt, letter, line, at, state, ram),
-    }
+    view: View,
+    room: &'a mut [u8],
+) -> Result<Option<Order<'a>>, Said> {
+    let ram = view.ram.len();
+    let order = match command {
+        Command::Assemble => stores::assembled(rt, line, ram, room)?,
+        Command::Back => Order::Back(values::only(rt, line)?.unwrap_or(1)),
+        Command::Key => stores::keys(rt, line, room)?,
+        Command::Load => images::load(rt, line, ram, room)?,
+        Command::Memset => stores::memset(rt, line, ram, room)?,
+        Command::Origin => Order::Origin(asking::origin(rt, line, ram)?),
+        Command::Register => return setting::register(rt, line, view),
+        Command::Reset => bare(rt, Order::Reset, line)?,
+        Command::Step => Order::Steps(times(rt, line, b"0 steps: nothing was done\n")?),
+        Command::Sent => bare(rt, Order::Sent, line)?,
+        Command::Tick => Order::Tick(times(rt, line, b"0 ticks: nothing was done\n")?),
+        Command::Execute => Order::Run(values::only(rt, line)?),
+        Command::Rexecute => Order::RunBack(values::only(rt, line)?),
+        _ => {
+            shown(rt, command, line, view)?;
+            return Ok(None);
+        }
+    };
+    Ok(Some(order))
+}
+
+// What a command asks of the machine, by the line behind its name; none where it asks nothing, or something was wrong with the line, which was said.
+pub fn read<'a>(
+    rt: &(impl Print + Files),
+    command: Command,
+    line: &[u8],
+    view: View,
+    room: &'a mut [u8],
+) -> Option<Order<'a>> {
+    parsed(rt, command, line, view, room).unwrap_or(None)
 }

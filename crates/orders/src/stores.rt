@@ -1,202 +1,169 @@
 // memset, key and assemble: bytes for the machine, read off the line into the room.
 use crate::Order;
-use console::{paths, rows, values, words};
+use console::rows::Row;
+use console::values::Said;
+use console::{paths, values, words};
 use lexis::numbers;
-use lexis::numbers::{Read, Value};
-use panel::refusals;
-use quoted::Chars;
+use lexis::numbers::Value;
+use panel::refusals::Refusal;
+use panel::status::Noun;
+use quoted::Fault;
 use text::assemble;
-use text::assemble::Assembled;
+use text::assemble::NoWord;
 
-// How many bytes the values are; or one of them is bad, which was said.
-#[derive(Clone, Copy)]
-enum Bytes {
-    Are(usize),
-    Bad,
-}
-
-fn bad(rt: &impl Print, what: &[u8], word: &[u8]) -> Bytes {
+fn bad(rt: &impl Print, what: &[u8], word: &[u8]) -> Said {
     values::complain(rt, what, word);
-    Bytes::Bad
+    Said
 }
 
-// So many bytes more; no line has a million.
-fn more(at: usize, n: usize) -> Bytes {
-    if 1000000 < at {
-        return Bytes::Bad;
-    }
-    if 1000000 < n {
-        return Bytes::Bad;
-    }
-    Bytes::Are(at + n)
+fn refused(rt: &impl Print, why: Refusal) -> Said {
+    why.say(rt);
+    Said
 }
 
-fn counted(rt: &impl Print, c: Chars, word: &[u8], at: usize) -> Bytes {
-    match c {
-        Chars::Are(n) => more(at, n),
-        Chars::Bad => bad(rt, b"not a string in double quotes", word),
-        Chars::NoRoom => bad(rt, b"more bytes than can be given at once", word),
+const TOO_MANY: &[u8] = b"more bytes than can be given at once";
+
+// A string's bytes at the start of the room: how many.
+fn string(rt: &impl Print, word: &[u8], room: &mut [u8]) -> Result<usize, Said> {
+    match paths::string(word, room) {
+        Ok(n) => Ok(n),
+        Err(Fault::Bad) => Err(bad(rt, b"not a string in double quotes", word)),
+        Err(Fault::NoRoom) => Err(bad(rt, TOO_MANY, word)),
     }
 }
 
-// A string's bytes, put at a place.
-fn string(rt: &impl Print, word: &[u8], out: &mut [u8], at: usize) -> Bytes {
-    if out.len() < at {
-        return bad(rt, b"more bytes than can be given at once", word);
-    }
-    let c = paths::string(word, &mut out[at..]);
-    counted(rt, c, word, at)
+// What a value may be, beside a string.
+#[derive(Clone, Copy, PartialEq, Eq)]
+enum Numbers {
+    Bytes,
+    BytesAndWords,
 }
 
-// A number's byte, or its two bytes with the lower first.
-fn placed(
-    rt: &impl Print,
-    v: Value,
-    word: &[u8],
-    out: &mut [u8],
-    at: usize,
-    words_too: bool,
-) -> Bytes {
-    if v.word & !words_too {
-        return bad(rt, b"not a byte", word);
-    }
-    let p = rows::put(out, at, (v.bits % 256) as u8);
+// A number's byte, or its two bytes with the lower first, at the start of the room: how many.
+fn put(room: &mut [u8], v: Value) -> usize {
+    let [low, high] = v.bits.to_le_bytes();
+    let mut row = Row::new(room);
+    row.put(low);
     if v.word {
-        return Bytes::Are(rows::put(out, p, (v.bits / 256) as u8));
+        row.put(high);
     }
-    Bytes::Are(p)
+    row.bytes().len()
 }
 
-fn number(rt: &impl Print, word: &[u8], out: &mut [u8], at: usize, words_too: bool) -> Bytes {
-    let r = numbers::number(word);
-    if let Read::Is(v) = r {
-        return placed(rt, v, word, out, at, words_too);
-    }
-    values::unread(rt, r, word);
-    Bytes::Bad
-}
-
-fn value(rt: &impl Print, word: &[u8], out: &mut [u8], at: usize, words_too: bool) -> Bytes {
-    if words::byte_at(word, 0) == b'"' {
-        return string(rt, word, out, at);
-    }
-    number(rt, word, out, at, words_too)
-}
-
-// All values from a place of the line on, as bytes at the start of `out`; there has to be one.
-fn all(rt: &impl Print, line: &[u8], at: usize, out: &mut [u8], words_too: bool) -> Bytes {
-    let mut n: usize = 0;
-    let mut p = words::next(line, at);
-    if p.from == p.to {
-        report::text(rt, b"a value is needed\n");
-        return Bytes::Bad;
-    }
-    let mut left = line.len();
-    while left > 0 {
-        left -= 1;
-        if p.from == p.to {
-            return Bytes::Are(n);
+fn number(rt: &impl Print, word: &[u8], room: &mut [u8], allowed: Numbers) -> Result<usize, Said> {
+    match numbers::number(word) {
+        Ok(v) if v.word & (allowed == Numbers::Bytes) => Err(bad(rt, b"not a byte", word)),
+        Ok(v) => Ok(put(room, v)),
+        Err(fault) => {
+            values::unread(rt, fault, word);
+            Err(Said)
         }
-        let b = value(rt, words::cut(line, p), out, n, words_too);
-        let Bytes::Are(k) = b else {
-            return Bytes::Bad;
-        };
-        n = k;
-        p = words::next(line, p.to);
     }
-    Bytes::Are(n)
 }
 
-// Whether bytes are all in RAM; where not, that is said.
-fn fits(rt: &impl Print, at: u16, n: usize, ram: usize) -> bool {
-    if is_within(at, n, ram) {
-        return true;
+fn value(rt: &impl Print, word: &[u8], room: &mut [u8], allowed: Numbers) -> Result<usize, Said> {
+    match word.first() {
+        Some(b'"') => string(rt, word, room),
+        _ => number(rt, word, room, allowed),
     }
-    refusals::say(rt, 7);
-    false
+}
+
+// All values of the line, as bytes at the start of the room; there has to be one.
+fn all<'a>(
+    rt: &impl Print,
+    line: &[u8],
+    room: &'a mut [u8],
+    allowed: Numbers,
+) -> Result<&'a [u8], Said> {
+    if words::next(line).is_none() {
+        report::text(rt, b"a value is needed\n");
+        return Err(Said);
+    }
+    let mut n: usize = 0;
+    let mut rest = line;
+    while let Some((word, after)) = words::next(rest) {
+        let Some(left) = room.get_mut(n..) else {
+            return Err(bad(rt, TOO_MANY, word));
+        };
+        n = n.saturating_add(value(rt, word, left, allowed)?);
+        rest = after;
+    }
+    Ok(words::front(room, n))
 }
 
 // Whether there are no bytes, or all are in RAM.
 pub fn is_within(at: u16, n: usize, ram: usize) -> bool {
-    let a = at as usize;
-    if n == 0 {
-        return true;
+    (n == 0) | ((at as usize).saturating_add(n) <= ram)
+}
+
+// Bytes are all in RAM; where not, that is said.
+fn fits(rt: &impl Print, at: u16, n: usize, ram: usize) -> Result<(), Said> {
+    if is_within(at, n, ram) {
+        Ok(())
+    } else {
+        Err(refused(rt, Refusal::NotRam))
     }
-    if ram < a {
-        return false;
-    }
-    n <= ram - a
 }
 
 // What was stored or loaded, and where.
 pub fn tell(rt: &impl Print, what: &[u8], n: usize, at: u16) {
+    let noun = Noun {
+        one: b"byte at ",
+        more: b"bytes at ",
+    };
     report::text(rt, what);
     report::space(rt);
-    report::decimal(rt, n as u64);
-    if n == 1 {
-        report::text(rt, b" byte at ");
-    } else {
-        report::text(rt, b" bytes at ");
-    }
+    noun.count(rt, n as u64);
     report::hex(rt, at as u64, 4);
     report::end(rt);
 }
 
-fn stored(rt: &impl Print, b: Bytes, at: u16, ram: usize) -> Order {
-    let Bytes::Are(n) = b else {
-        return Order::Nothing;
-    };
-    if !fits(rt, at, n, ram) {
-        return Order::Nothing;
-    }
-    tell(rt, b"stored", n, at);
-    Order::Pokes(at, n)
-}
-
 // memset ADDR VALUE..
-pub fn memset(rt: &impl Print, line: &[u8], at: usize, ram: usize, room: &mut [u8]) -> Order {
-    let a = values::needed(rt, line, at, b"an address is needed");
-    if a.is_bad {
-        return Order::Nothing;
-    }
-    stored(rt, all(rt, line, a.to, room, true), a.value, ram)
+pub fn memset<'a>(
+    rt: &impl Print,
+    line: &[u8],
+    ram: usize,
+    room: &'a mut [u8],
+) -> Result<Order<'a>, Said> {
+    let (at, rest) = values::needed(rt, line, b"an address is needed")?;
+    let bytes = all(rt, rest, room, Numbers::BytesAndWords)?;
+    fits(rt, at, bytes.len(), ram)?;
+    tell(rt, b"stored", bytes.len(), at);
+    Ok(Order::Pokes(at, bytes))
 }
 
 // key BYTE..
-pub fn keys(rt: &impl Print, line: &[u8], at: usize, room: &mut [u8]) -> Order {
-    let b = all(rt, line, at, room, false);
-    match b {
-        Bytes::Are(n) => Order::Keys(n),
-        Bytes::Bad => Order::Nothing,
-    }
-}
-
-fn refused(rt: &impl Print, n: u8) -> Order {
-    refusals::say(rt, n);
-    Order::Nothing
+pub fn keys<'a>(rt: &impl Print, line: &[u8], room: &'a mut [u8]) -> Result<Order<'a>, Said> {
+    let bytes = all(rt, line, room, Numbers::Bytes)?;
+    Ok(Order::Keys(bytes))
 }
 
 // An instruction's two bytes.
-fn code(rt: &impl Print, word: u16, at: u16, ram: usize, room: &mut [u8]) -> Order {
-    if !fits(rt, at, 2, ram) {
-        return Order::Nothing;
-    }
-    let p = rows::put(room, 0, (word % 256) as u8);
-    rows::put(room, p, (word / 256) as u8);
-    Order::Code(at)
+fn code<'a>(
+    rt: &impl Print,
+    word: u16,
+    at: u16,
+    ram: usize,
+    room: &'a mut [u8],
+) -> Result<Order<'a>, Said> {
+    fits(rt, at, 2, ram)?;
+    let mut row = Row::new(room);
+    row.put_all(&word.to_le_bytes());
+    Ok(Order::Code(at, row.finished()))
 }
 
 // assemble ADDR LINE
-pub fn assembled(rt: &impl Print, line: &[u8], at: usize, ram: usize, room: &mut [u8]) -> Order {
-    let a = values::needed(rt, line, at, b"an address is needed");
-    if a.is_bad {
-        return Order::Nothing;
-    }
-    let w = assemble::assemble(words::rest(line, a.to));
-    match w {
-        Assembled::Word(word) => code(rt, word, a.value, ram, room),
-        Assembled::BadLine => refused(rt, 12),
-        Assembled::BadMnemonic => refused(rt, 13),
-        Assembled::BadOperand => refused(rt, 14),
+pub fn assembled<'a>(
+    rt: &impl Print,
+    line: &[u8],
+    ram: usize,
+    room: &'a mut [u8],
+) -> Result<Order<'a>, Said> {
+    let (at, rest) = values::needed(rt, line, b"an address is needed")?;
+    match assemble::assemble(rest) {
+        Ok(word) => code(rt, word, at, ram, room),
+        Err(NoWord::BadLine) => Err(refused(rt, Refusal::BadLine)),
+        Err(NoWord::BadMnemonic) => Err(refused(rt, Refusal::BadMnemonic)),
+        Err(NoWord::BadOperand) => Err(refused(rt, Refusal::BadOperand)),
     }
 }
