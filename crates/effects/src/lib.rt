@@ -46,7 +46,7 @@ pub fn sent_off(c: Cpu) -> Cpu
     signal(c, 0x0800, v)
 }
 
-// A number past 15 names no register, and nothing is written.
+// A number past 15 names no register, and nothing is written. With `get_mut` in place of the test (tried), the proof did not close.
 fn written(regs: [u16; 16], number: usize, content: u16) -> [u16; 16]
     ensures { result ≡ set regs number content }
 {

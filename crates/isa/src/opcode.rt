@@ -32,7 +32,7 @@ pub enum StoreOp {
     Ddsto,
 }
 
-// An operation; an illegal one with its reason.
+// An operation; an illegal one with its reason, by the number that the machine stores of it.
 #[derive(Clone, Copy)]
 pub enum Op {
     Illegal(u8),
