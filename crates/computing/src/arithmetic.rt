@@ -10,10 +10,10 @@ use word::bits;
 fn put_flags(regs: &mut [u16; 16], flags: u16)
     ensures { regs.new ≡ flagged regs.old flags }
 {
-    let f = regs[F];
-    regs[F] = bits::or(bits::and(f, 0xff0f), flags);
+    regs[F] = bits::or(bits::and(regs[F], 0xff0f), flags);
 }
 
+#[tactic(auto, unfolding(crate::specs::Instructions::computed))]
 pub fn compute(regs: &mut [u16; 16], op: AluOp, operands: u8)
     ensures { regs.new ≡ computed op regs.old (high_at 4 operands) (low_at 4 operands) }
 {
@@ -25,6 +25,7 @@ pub fn compute(regs: &mut [u16; 16], op: AluOp, operands: u8)
     regs[d] = x.value;
 }
 
+#[tactic(auto, unfolding(crate::specs::Instructions::compared))]
 pub fn compare(regs: &mut [u16; 16], op: CompareOp, operands: u8)
     ensures { regs.new ≡ compared op regs.old (high_at 4 operands) (low_at 4 operands) }
 {

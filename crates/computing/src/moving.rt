@@ -11,32 +11,29 @@ use word::{bits, halves};
 fn read_csr(csrs: &[u16; 6], i: usize) -> u16
     ensures { result ≡ csr_read csrs.now i }
 {
-    if i < 6 { csrs[i] } else { 0 }
+    csrs.get(i).copied().unwrap_or(0)
 }
 
 fn write_csr(csrs: &mut [u16; 6], i: usize, w: u16)
     ensures { csrs.new ≡ csr_written csrs.old i w }
 {
-    if i == 0 {
-        let csr0 = csrs[0];
-        csrs[0] = halves::join(halves::low(w), halves::high(csr0));
-        return;
-    }
-    if i < 6 {
-        csrs[i] = w;
+    match i {
+        0 => csrs[0] = halves::join(halves::low(w), halves::high(csrs[0])),
+        1..=5 => csrs[i] = w,
+        _ => {}
     }
 }
 
 fn return_from(regs: &mut [u16; 16], handler: u16)
     ensures { regs.new ≡ returned regs.old handler }
 {
-    let f = regs[F];
     let ia = regs[IA];
-    regs[F] = bits::or(f, 0x0100);
+    regs[F] = bits::or(regs[F], 0x0100);
     regs[PC] = ia;
     regs[IA] = handler;
 }
 
+#[tactic(auto, unfolding(crate::specs::Instructions::moved))]
 pub fn transfer(regs: &mut [u16; 16], csrs: &mut [u16; 6], op: MoveOp, opcode: u8, operands: u8)
     ensures { moves regs.new csrs.new ≡ moved op regs.old csrs.old opcode (high_at 4 operands) (low_at 4 operands) }
 {
@@ -45,28 +42,18 @@ pub fn transfer(regs: &mut [u16; 16], csrs: &mut [u16; 6], op: MoveOp, opcode: u
     let a = regs[d];
     let b = regs[s];
     match op {
-        MoveOp::Csrr => {
-            regs[d] = read_csr(csrs, s);
-        }
-        MoveOp::Csrw => {
-            write_csr(csrs, d, b);
-        }
+        MoveOp::Csrr => regs[d] = read_csr(csrs, s),
+        MoveOp::Csrw => write_csr(csrs, d, b),
         MoveOp::Exch => {
             regs[d] = b;
             regs[s] = a;
         }
-        MoveOp::Mv => {
-            regs[d] = b;
-        }
+        MoveOp::Mv => regs[d] = b,
         MoveOp::MvIf => {
-            let f = regs[F];
-            if condition::holds(opcode, f) {
+            if condition::holds(opcode, regs[F]) {
                 regs[d] = b;
             }
         }
-        MoveOp::Reti => {
-            let handler = csrs[1];
-            return_from(regs, handler);
-        }
+        MoveOp::Reti => return_from(regs, csrs[1]),
     }
 }

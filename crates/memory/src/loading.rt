@@ -24,69 +24,48 @@ fn load_byte(regs: &mut [u16; 16], v: Devices, ram: &[u8], d: usize, at: u16)
     requires { d < 16 }
     ensures { regs.new ≡ set regs.old d (join_at 8 (byte_at v ram.now at) (high_at 8 (word_in regs.old d))) }
 {
-    let w = regs[d];
-    regs[d] = halves::join(address::read_byte(v, ram, at), halves::high(w));
+    regs[d] = halves::join(address::read_byte(v, ram, at), halves::high(regs[d]));
 }
 
+// `storing::sub2_if` is the same but for the sum: a step handed in as a closure is longer at each call, and no plainer.
 fn add2_if(regs: &mut [u16; 16], i: usize, gains: bool)
     requires { i < 16 }
     ensures { regs.new ≡ cond gains (plus2 regs.old i) regs.old }
 {
     if gains {
-        let w = regs[i];
-        regs[i] = sums::plus(w, 2);
+        regs[i] = sums::plus(regs[i], 2);
     }
 }
 
 fn loads_byte(op: LoadOp) -> bool
     ensures { result ≡ loads_byte op }
 {
-    match op {
-        LoadOp::Ld => false,
-        LoadOp::Ldb => true,
-        LoadOp::Ldis => false,
-        LoadOp::LdIf => false,
-        LoadOp::LdisIf => false,
-    }
+    matches!(op, LoadOp::Ldb)
 }
 
 fn goes(op: LoadOp, held: bool) -> bool
     ensures { result ≡ goes_if op held }
 {
     match op {
-        LoadOp::Ld => true,
-        LoadOp::Ldb => true,
-        LoadOp::Ldis => true,
-        LoadOp::LdIf => held,
-        LoadOp::LdisIf => held,
+        LoadOp::Ld | LoadOp::Ldb | LoadOp::Ldis => true,
+        LoadOp::LdIf | LoadOp::LdisIf => held,
     }
 }
 
 fn steps_after(op: LoadOp) -> bool
     ensures { result ≡ steps_after op }
 {
-    match op {
-        LoadOp::Ld => false,
-        LoadOp::Ldb => false,
-        LoadOp::Ldis => true,
-        LoadOp::LdIf => false,
-        LoadOp::LdisIf => false,
-    }
+    matches!(op, LoadOp::Ldis)
 }
 
 fn steps_past(op: LoadOp) -> bool
     ensures { result ≡ steps_past op }
 {
-    match op {
-        LoadOp::Ld => false,
-        LoadOp::Ldb => false,
-        LoadOp::Ldis => false,
-        LoadOp::LdIf => false,
-        LoadOp::LdisIf => true,
-    }
+    matches!(op, LoadOp::LdisIf)
 }
 
 // It answers the bytes loaded. The word has one load, under one test: with a load for each operation the compiler makes calls and a second jump of them.
+#[tactic(auto, unfolding(crate::specs::Instructions::loaded))]
 pub fn load(
     regs: &mut [u16; 16],
     v: Devices,
@@ -105,8 +84,7 @@ pub fn load(
         load_byte(regs, v, ram, d, at);
         return 1;
     }
-    let f = regs[F];
-    if goes(op, condition::holds(opcode, f)) {
+    if goes(op, condition::holds(opcode, regs[F])) {
         load_word(regs, v, ram, d, at);
         add2_if(regs, s, steps_after(op));
         return 2;

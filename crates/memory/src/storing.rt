@@ -23,32 +23,31 @@ pub struct Written {
 fn old_byte(ram: &[u8], a: u16) -> u8
     ensures { result ≡ byte_in ram.now a }
 {
-    let i = a as usize;
-    if i < ram.len() { ram[i] } else { 0 }
+    ram.get(usize::from(a)).copied().unwrap_or(0)
 }
 
+#[tactic(auto, unfolding(word::specs::Memory::old_bytes))]
 fn store_word(b: Board, ram: &mut [u8], a: u16, w: u16) -> Written
     ensures state_after { (g : List ℕ) → over_as g result ram.new ≡ over_of ram.old (stores g (put_word (bus_at b ram.old) a w) 2 a) }
     ensures few { result.count ≤ 2 }
 {
     let old = halves::join(old_byte(ram, a), old_byte(ram, sums::plus(a, 1)));
-    let u = address::write_word(b, ram, a, w);
     Written {
-        board: u,
+        board: address::write_word(b, ram, a, w),
         count: 2,
         first: a,
         old,
     }
 }
 
+#[tactic(auto, unfolding(word::specs::Memory::old_bytes))]
 fn store_byte(b: Board, ram: &mut [u8], a: u16, x: u8) -> Written
     ensures state_after { (g : List ℕ) → over_as g result ram.new ≡ over_of ram.old (stores g (put_byte (bus_at b ram.old) a x) 1 a) }
     ensures few { result.count ≤ 2 }
 {
     let old = halves::join(old_byte(ram, a), 0);
-    let u = address::write_byte(b, ram, a, x);
     Written {
-        board: u,
+        board: address::write_byte(b, ram, a, x),
         count: 1,
         first: a,
         old,
@@ -60,29 +59,20 @@ fn sub2_if(regs: &mut [u16; 16], i: usize, loses: bool)
     ensures { regs.new ≡ cond loses (minus2 regs.old i) regs.old }
 {
     if loses {
-        let w = regs[i];
-        regs[i] = sums::minus(w, 2);
+        regs[i] = sums::minus(regs[i], 2);
     }
 }
 
 fn lowers(op: StoreOp) -> bool
     ensures { result ≡ lowers_first op }
 {
-    match op {
-        StoreOp::Sto => false,
-        StoreOp::Stob => false,
-        StoreOp::Ddsto => true,
-    }
+    matches!(op, StoreOp::Ddsto)
 }
 
 fn stores_byte(op: StoreOp) -> bool
     ensures { result ≡ stores_byte op }
 {
-    match op {
-        StoreOp::Sto => false,
-        StoreOp::Stob => true,
-        StoreOp::Ddsto => false,
-    }
+    matches!(op, StoreOp::Stob)
 }
 
 // One store of a word for sto and ddsto, as `load` has one load of a word.

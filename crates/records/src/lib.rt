@@ -46,6 +46,7 @@ fn packed(
 }
 
 // The state before an input, but for the protected addresses; the bytes that the input wrote, their first address, the old bytes.
+#[tactic(auto, unfolding(crate::specs::Record::record_with))]
 pub fn encode(
     g: [u16; 16],
     k: [u16; 6],
@@ -65,44 +66,39 @@ pub fn encode(
 fn registers(w: [u16; 32]) -> [u16; 16]
     ensures { result ≡ part 16 w 0 }
 {
-    [
-        w[0], w[1], w[2], w[3], w[4], w[5], w[6], w[7], w[8], w[9], w[10], w[11], w[12], w[13],
-        w[14], w[15],
-    ]
+    let mut regs = [0; 16];
+    regs.copy_from_slice(&w[..16]);
+    regs
 }
 
 fn control(w: [u16; 32]) -> [u16; 6]
     ensures { result ≡ part 6 w 16 }
 {
-    [w[16], w[17], w[18], w[19], w[20], w[21]]
+    let mut csrs = [0; 6];
+    csrs.copy_from_slice(&w[16..22]);
+    csrs
 }
 
 // What the words keep, of a machine with these protected addresses.
+#[tactic(auto, unfolding(crate::specs::Record::undo_from))]
 pub fn decode(w: [u16; 32], stretch: Stretch) -> Before
     ensures { undo_from stretch w ≡ undo_as result }
 {
-    let regs = registers(w);
-    let csrs = control(w);
-    let rxd = halves::low(w[23]);
-    let txd = halves::high(w[23]);
-    let r = bits::bit(w[24], 0);
-    let t = bits::bit(w[24], 1);
-    let halted = bits::bit(w[24], 2);
-    let low = halves::low(w[27]);
-    let high = halves::high(w[27]);
+    let [rxd, txd] = w[23].to_le_bytes();
+    let [low, high] = w[27].to_le_bytes();
     Before {
         cpu: Cpu {
-            regs,
-            csrs,
+            regs: registers(w),
+            csrs: control(w),
             board: Board {
                 devices: Devices {
                     clock: w[22],
                     rxd,
                     txd,
-                    r,
-                    t,
+                    r: bits::bit(w[24], 0),
+                    t: bits::bit(w[24], 1),
                 },
-                halted,
+                halted: bits::bit(w[24], 2),
                 stretch,
             },
         },
@@ -113,9 +109,11 @@ pub fn decode(w: [u16; 32], stretch: Stretch) -> Before
     }
 }
 
+#[tactic(auto, unfolding(crate::specs::Record::sound))]
 pub fn is_sound(w: [u16; 32]) -> bool
     ensures { result ≡ sound w }
 {
+    // `w[28..].iter().all(..)` behind `&&` was tried: the proof didn't close.
     (w[16] <= 511)
         & ((w[24] <= 7)
             & ((w[25] <= 2) & ((w[28] == 0) & ((w[29] == 0) & ((w[30] == 0) & (w[31] == 0))))))

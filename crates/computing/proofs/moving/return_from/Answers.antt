@@ -1,4 +1,0 @@
-use Rattle.computing.proofs.moving.return_from.Goals as goal
-
-pub returns : goal.returns
-returns c = simp c.or.ensures
