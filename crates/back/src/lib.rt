@@ -24,22 +24,17 @@ pub fn step_back(m: Machine, ram: &mut [u8], journal: &[u16]) -> Reply
             held: m.held,
         },
     );
-    let words = newest.words;
-    if records::is_sound(words) {
-        let before = m.cpu;
-        let board = before.board;
-        let b = records::decode(words, board.stretch);
-        undo::restore(ram, b.count, b.first, b.low, b.high);
-        let c = b.cpu;
-        let p = newest.place;
-        return Reply {
-            answer: Answer::Accepted,
-            machine: Machine {
-                cpu: c,
-                next: p.next,
-                held: p.held,
-            },
-        };
+    if !records::is_sound(newest.words) {
+        return checks::refused(m, Refusal::BadRecord);
     }
-    checks::refused(m, Refusal::BadRecord)
+    let before = records::decode(newest.words, m.cpu.board.stretch);
+    undo::restore(ram, before.count, before.first, before.low, before.high);
+    Reply {
+        answer: Answer::Accepted,
+        machine: Machine {
+            cpu: before.cpu,
+            next: newest.place.next,
+            held: newest.place.held,
+        },
+    }
 }

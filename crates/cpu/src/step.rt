@@ -56,30 +56,23 @@ fn execute(
         Op::Illegal(reason) => quiet(exceptions::raise(regs, csrs, reason, b), 2),
         Op::Alu(x) => {
             arithmetic::compute(regs, x, operands);
-            let f = regs[F];
-            quiet(exceptions::settle(csrs, before, f, b), 2)
+            quiet(exceptions::settle(csrs, before, regs[F], b), 2)
         }
         Op::Compare(x) => {
             arithmetic::compare(regs, x, operands);
-            let f = regs[F];
-            quiet(exceptions::settle(csrs, before, f, b), 2)
+            quiet(exceptions::settle(csrs, before, regs[F], b), 2)
         }
         Op::Move(x) => {
             moving::transfer(regs, csrs, x, opcode, operands);
-            let f = regs[F];
-            quiet(exceptions::settle(csrs, before, f, b), 2)
+            quiet(exceptions::settle(csrs, before, regs[F], b), 2)
         }
         Op::Load(x) => {
-            let v = b.devices;
-            let n = loading::load(regs, v, ram, x, opcode, operands);
-            let f = regs[F];
-            quiet(exceptions::settle(csrs, before, f, b), 2 + n)
+            let n = loading::load(regs, b.devices, ram, x, opcode, operands);
+            quiet(exceptions::settle(csrs, before, regs[F], b), 2 + n)
         }
         Op::Store(x) => {
             let w = storing::store(regs, b, ram, x, operands);
-            let f = regs[F];
-            let u = w.board;
-            let board = exceptions::settle(csrs, before, f, u);
+            let board = exceptions::settle(csrs, before, regs[F], w.board);
             Done {
                 board,
                 count: w.count,
@@ -103,15 +96,13 @@ pub fn step(
     ensures { TellsAll table.now → told_as regs.new csrs.new result ram.new
         ≡ told_of ram.old (step_of (cpu regs.old csrs.old b) ram.old) }
 {
-    let f = regs[F];
-    if exceptions::due(f) {
+    if exceptions::due(regs[F]) {
         exceptions::enter(regs);
         return quiet(b, 0);
     }
     let pc = regs[PC];
-    let v = b.devices;
-    let first = address::read_byte(v, ram, pc);
-    let second = address::read_byte(v, ram, sums::plus(pc, 1));
+    let first = address::read_byte(b.devices, ram, pc);
+    let second = address::read_byte(b.devices, ram, sums::plus(pc, 1));
     regs[PC] = sums::plus(pc, 2);
     execute(
         regs,

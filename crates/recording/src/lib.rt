@@ -24,10 +24,9 @@ pub struct Recorded {
 fn note(journal: &mut [u16], slot: usize, count: u8, first: u16, old: u16)
     ensures { journal.new ≡ noted journal.old slot count first old }
 {
-    if count == 0 {
-        return;
+    if count != 0 {
+        history::amend(journal, slot, 25, u16::from(count), first, old);
     }
-    history::amend(journal, slot, 25, count as u16, first, old);
 }
 
 // The record of the state before the step is pushed first, and what the step wrote goes in after it: so the record needs no copy of registers and CSRs.
