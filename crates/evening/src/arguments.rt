@@ -245,7 +245,7 @@ fn given_at(rt: &HostRuntime, i: usize) -> Given {
     Given::named(argument(rt, i, &mut room))
 }
 
-// All arguments, one after the other.
+// All arguments, one after the other. An option takes those behind it along, so the place jumps: a `for` over places would have to skip.
 fn gathered(rt: &HostRuntime, setup: &mut [u16]) -> Option<Known> {
     let mut k = Known {
         board: Board::new(),

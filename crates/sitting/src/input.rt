@@ -2,7 +2,7 @@
 use crate::state;
 use crate::state::Desk;
 use console::lines;
-use console::lines::Line;
+use console::lines::Unfit;
 
 fn prompt(rt: &impl Print, d: &Desk) {
     if (d.depth == 0) & d.is_terminal {
@@ -10,8 +10,7 @@ fn prompt(rt: &impl Print, d: &Desk) {
     }
 }
 
-// The next line, from where commands come from now.
-pub fn next(rt: &(impl Print + Input), d: &mut Desk, room: &mut [u8]) -> Line {
+fn read(rt: &(impl Print + Input), d: &mut Desk, room: &mut [u8]) -> Result<Option<usize>, Unfit> {
     prompt(rt, d);
     match state::source(d) {
         Some(file) => lines::read(file, room),
@@ -19,24 +18,22 @@ pub fn next(rt: &(impl Print + Input), d: &mut Desk, room: &mut [u8]) -> Line {
     }
 }
 
-// Where there is no line.
-pub fn unread(rt: &impl Print, d: Desk, l: Line) -> Desk {
-    match l {
-        Line::Is(n) => d,
-        Line::TooLong => {
-            report::text(
-                rt,
-                b"the line is longer than 4,096 bytes; nothing was done\n",
-            );
-            d
-        }
-        Line::Endless => {
+// The next line, from where commands come from now: how long it is in the room. None where there is no line, which is said, or where they come from ends.
+pub fn next(rt: &(impl Print + Input), d: &mut Desk, room: &mut [u8]) -> Option<usize> {
+    match read(rt, d, room) {
+        Ok(Some(n)) => return Some(n),
+        Ok(None) => state::leave(rt, d),
+        Err(Unfit::TooLong) => report::text(
+            rt,
+            b"the line is longer than 4,096 bytes; nothing was done\n",
+        ),
+        Err(Unfit::Endless) => {
             report::text(
                 rt,
                 b"a million bytes and no line's end; no more is read from there\n",
             );
-            state::left(rt, d)
+            state::leave(rt, d);
         }
-        Line::End => state::left(rt, d),
     }
+    None
 }

@@ -1,70 +1,54 @@
 // The commands of the desk itself.
+use crate::scripts;
 use crate::state::Desk;
-use crate::{scripts, state};
+use console::commands::Command;
 use console::values;
+use console::values::Said;
 use panel::dumps;
-use panel::dumps::Form;
+use panel::dumps::{Base, Form, Unit};
+use panel::view::View;
 use std::fs::File;
 use std::rt::Files;
 use stops::commands;
 
-fn dumped(
+fn dump(
     rt: &impl Print,
-    d: Desk,
-    is_words: bool,
-    is_decimal: bool,
+    d: &mut Desk,
+    unit: Unit,
+    base: Base,
     line: &[u8],
-    at: usize,
-    machine: &[u16; 32],
-    ram: &[u8],
-) -> Desk {
-    let f = Form {
-        is_words,
-        is_decimal,
-    };
-    let last = d.dump;
-    state::with_dump(d, dumps::dump(rt, last, f, machine, ram, line, at))
+    view: View,
+) -> Result<(), Said> {
+    d.dump = dumps::dump(rt, d.dump, Form { unit, base }, view, line)?;
+    Ok(())
 }
 
-fn broken(rt: &impl Print, d: Desk, line: &[u8], at: usize) -> Desk {
-    let s = d.stops;
-    state::with_stops(d, commands::set_break(rt, s, line, at))
-}
-
-fn watched(rt: &impl Print, d: Desk, line: &[u8], at: usize) -> Desk {
-    let s = d.stops;
-    state::with_stops(d, commands::set_watch(rt, s, line, at))
-}
-
-fn quit(rt: &impl Print, d: Desk, line: &[u8], at: usize) -> Desk {
-    let mut e = d;
-    if values::is_end(rt, line, at) {
-        e.is_over = true;
+fn quit(rt: &impl Print, d: &mut Desk, line: &[u8]) -> Result<(), Said> {
+    if values::is_end(rt, line) {
+        d.is_over = true;
     }
-    e
+    Ok(())
 }
 
-// The command of a row's letter, of which the line goes on at a place; a letter of no such command leaves all as it is.
+// A command on the desk, by the line behind its name; one that is none leaves all as it is.
 pub fn tend(
     rt: &(impl Print + Files<File = File>),
-    letter: u8,
-    d: Desk,
+    command: Command,
+    d: &mut Desk,
     line: &[u8],
-    at: usize,
-    machine: &[u16; 32],
-    ram: &[u8],
+    view: View,
     slots: usize,
-) -> Desk {
-    match letter {
-        b'd' => dumped(rt, d, false, false, line, at, machine, ram),
-        b'e' => dumped(rt, d, false, true, line, at, machine, ram),
-        b'w' => dumped(rt, d, true, false, line, at, machine, ram),
-        b'W' => dumped(rt, d, true, true, line, at, machine, ram),
-        b'B' => broken(rt, d, line, at),
-        b'v' => watched(rt, d, line, at),
-        b'D' => scripts::follow(rt, d, line, at),
-        b'H' => scripts::history(rt, d, line, at, machine, slots),
-        b'q' => quit(rt, d, line, at),
-        _ => d,
+) -> Result<(), Said> {
+    match command {
+        Command::Dump => dump(rt, d, Unit::Byte, Base::Hexadecimal, line, view),
+        Command::Dumpd => dump(rt, d, Unit::Byte, Base::Decimal, line, view),
+        Command::Dumpw => dump(rt, d, Unit::Word, Base::Hexadecimal, line, view),
+        Command::Dumpwd => dump(rt, d, Unit::Word, Base::Decimal, line, view),
+        Command::Break => commands::set_break(rt, &mut d.stops, line),
+        Command::Watch => commands::set_watch(rt, &mut d.stops, line),
+        Command::Do => scripts::follow(rt, d, line),
+        Command::History => scripts::history(rt, d, line, view.held(), slots),
+        Command::Quit => quit(rt, d, line),
+        _ => Ok(()),
     }
 }

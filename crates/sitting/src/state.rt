@@ -13,7 +13,7 @@ pub struct Desk {
     pub stops: Stops,
     // The file that commands are recorded in, if any.
     pub log: Option<File>,
-    // The command files that are open, the outermost first.
+    // The command files that are open, the outermost first, and how many they are: nothing may grow here.
     pub files: [Option<File>; 8],
     pub depth: usize,
     pub is_terminal: bool,
@@ -35,77 +35,49 @@ where
     }
 }
 
-pub fn with_dump(d: Desk, dump: Spot) -> Desk {
-    let mut e = d;
-    e.dump = dump;
-    e
-}
-
-pub fn with_stops(d: Desk, stops: Stops) -> Desk {
-    let mut e = d;
-    e.stops = stops;
-    e
-}
-
-pub fn with_log(d: Desk, log: Option<File>) -> Desk {
-    let mut e = d;
-    e.log = log;
-    e
-}
-
 // The file that the next command comes from; none where that is standard input.
 pub fn source(d: &mut Desk) -> Option<&mut File> {
     let depth = d.depth;
-    if depth == 0 {
-        return None;
-    }
-    if 8 < depth {
+    if (depth == 0) | (8 < depth) {
         return None;
     }
     d.files[depth - 1].as_mut()
 }
 
 // Commands come from this file now; the caller sees that there is room.
-pub fn entered(d: Desk, file: File) -> Desk {
-    let mut e = d;
-    let depth = e.depth;
+pub fn enter(d: &mut Desk, file: File) {
+    let depth = d.depth;
     if depth < 8 {
-        e.files[depth] = Some(file);
-        e.depth = depth + 1;
+        d.files[depth] = Some(file);
+        d.depth = depth + 1;
     }
-    e
 }
 
 // The end of where commands come from: of a file, back to what named it; of standard input, the end.
-pub fn left(rt: &impl Print, d: Desk) -> Desk {
-    let mut e = d;
-    let depth = e.depth;
+pub fn leave(rt: &impl Print, d: &mut Desk) {
+    let depth = d.depth;
     if depth == 0 {
-        if e.is_terminal {
+        if d.is_terminal {
             report::end(rt);
         }
-        e.is_over = true;
-        return e;
+        d.is_over = true;
+        return;
     }
     if depth <= 8 {
-        e.files[depth - 1] = None;
+        d.files[depth - 1] = None;
     }
-    e.depth = depth - 1;
-    e
+    d.depth = depth - 1;
 }
 
-// What of a desk says, before a command, whether the command is to be recorded: the number of the file that commands are recorded in, or -1, and the depth.
+// What of a desk says, before a command, whether the command is to be recorded: the system's number of the file that commands are recorded in, and the depth.
 #[derive(Clone, Copy)]
 pub struct Mark {
-    log: i32,
+    log: Option<i32>,
     depth: usize,
 }
 
-fn log_number(d: &Desk) -> i32 {
-    match &d.log {
-        Some(file) => file.as_raw_fd(),
-        None => -1,
-    }
+fn log_number(d: &Desk) -> Option<i32> {
+    d.log.as_ref().map(|file| file.as_raw_fd())
 }
 
 pub fn marked(d: &Desk) -> Mark {

@@ -5,7 +5,7 @@ ghost use Rattle.stops.specs.Stops.{list_of, gone as gone_by, kept, first_of};
 
 use entries::{Entry, Met};
 
-// What an entry can be, by the machine's numbers.
+// What an entry can be, by the machine's numbers. `Entry` itself keeps the number: over the C interface there are unknown kinds.
 #[derive(Clone, Copy, PartialEq, Eq)]
 pub enum Kind {
     Break = 1,
