@@ -1,6 +1,6 @@
 // Listing every word, and assembling lines.
-use text::assemble::Assembled;
-use text::list::Listed;
+use text::assemble::NoWord;
+use text::list::NoText;
 use text::{assemble, list};
 
 // A refusal's number, 0 where accepted, and the value.
@@ -10,52 +10,31 @@ struct Numbered {
     value: u16,
 }
 
-fn listed(answer: Listed) -> Numbered {
-    match answer {
-        Listed::Text(n) => Numbered {
-            number: 0,
-            value: (n % 65536) as u16,
-        },
-        Listed::Reason2 => Numbered {
-            number: 10,
-            value: 0,
-        },
-        Listed::NoRoom => Numbered {
-            number: 11,
-            value: 0,
-        },
+impl Numbered {
+    fn accepted(value: u16) -> Numbered {
+        Numbered { number: 0, value }
+    }
+
+    fn refused(number: u16) -> Numbered {
+        Numbered { number, value: 0 }
     }
 }
 
-fn assembled(answer: Assembled) -> Numbered {
+fn listed(answer: Result<usize, NoText>) -> Numbered {
     match answer {
-        Assembled::Word(w) => Numbered {
-            number: 0,
-            value: w,
-        },
-        Assembled::BadLine => Numbered {
-            number: 12,
-            value: 0,
-        },
-        Assembled::BadMnemonic => Numbered {
-            number: 13,
-            value: 0,
-        },
-        Assembled::BadOperand => Numbered {
-            number: 14,
-            value: 0,
-        },
+        Ok(n) => Numbered::accepted((n % 65536) as u16),
+        Err(NoText::Reason2) => Numbered::refused(10),
+        Err(NoText::NoRoom) => Numbered::refused(11),
     }
 }
 
-fn absorb_bytes(digest: u64, bytes: &[u8]) -> u64 {
-    let mut h = digest;
-    let mut i = 0;
-    while i < bytes.len() {
-        h = report::absorb_byte(h, bytes[i]);
-        i += 1;
+fn assembled(answer: Result<u16, NoWord>) -> Numbered {
+    match answer {
+        Ok(w) => Numbered::accepted(w),
+        Err(NoWord::BadLine) => Numbered::refused(12),
+        Err(NoWord::BadMnemonic) => Numbered::refused(13),
+        Err(NoWord::BadOperand) => Numbered::refused(14),
     }
-    h
 }
 
 fn absorb_answer(digest: u64, answer: Numbered) -> u64 {
@@ -63,27 +42,17 @@ fn absorb_answer(digest: u64, answer: Numbered) -> u64 {
 }
 
 // The number and the word that a listed text assembles to; 0 and 0 where it was not listed.
-fn back(answer: Numbered, out: &[u8]) -> Numbered {
-    let n = answer.value as usize;
-    if answer.number != 0 {
-        return Numbered {
-            number: 0,
-            value: 0,
-        };
+fn back(answer: Result<usize, NoText>, out: &[u8]) -> Numbered {
+    match answer.ok().and_then(|n| out.get(..n)) {
+        Some(line) => assembled(assemble::assemble(line)),
+        None => Numbered::accepted(0),
     }
-    if out.len() < n {
-        return Numbered {
-            number: 0,
-            value: 0,
-        };
-    }
-    assembled(assemble::assemble(&out[0..n]))
 }
 
 fn word_digest(digest: u64, word: u16) -> u64 {
     let mut out = [0xaau8; 16];
-    let answer = listed(list::list(word, &mut out));
-    let h = absorb_bytes(absorb_answer(digest, answer), &out);
+    let answer = list::list(word, &mut out);
+    let h = report::absorb_bytes(absorb_answer(digest, listed(answer)), &out);
     absorb_answer(h, back(answer, &out))
 }
 
@@ -119,7 +88,7 @@ fn room_row(rt: &impl Print, n: usize, out: &mut [u8]) {
     report::decimal(rt, n as u64);
     report::space(rt);
     let answer = listed(list::list(0xaba0, out));
-    print_numbered(rt, answer, absorb_bytes(1, out));
+    print_numbered(rt, answer, report::absorb_bytes(1, out));
 }
 
 fn room_rows(rt: &impl Print) {
@@ -139,24 +108,17 @@ fn line_row(rt: &impl Print, index: u64, line: &[u8]) {
     report::end(rt);
 }
 
-fn wide(b: u8) -> usize {
-    b as usize
-}
-
 // Each line has its length in front.
 fn line_rows(rt: &impl Print, input: &[u8]) {
-    let mut at = 0;
+    let mut rest = input;
     let mut index: u64 = 0;
-    while at < input.len() {
-        let n = wide(input[at]);
-        let from = at + 1;
-        if input.len() - from < n {
+    while let [n, lines @ ..] = rest {
+        let Some((line, others)) = lines.split_at_checked(*n as usize) else {
             report::text(rt, b"cut short\n");
             return;
-        }
-        let to = from + n;
-        line_row(rt, index % 1000000, &input[from..to]);
-        at = to;
+        };
+        line_row(rt, index % 1000000, line);
+        rest = others;
         index = index % 1000000 + 1;
     }
 }
