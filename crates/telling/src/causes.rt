@@ -1,65 +1,80 @@
 // Why a run stopped, where a break or a watch stopped it.
-use console::rows;
+ghost use Rattle.std.specs.Prelude.{◌≡◌, ◌<◌, None, Some, IsSome};
+ghost use Rattle.telling.specs.declared.causes.Kind.TheVariants.{Watch};
 
-// The entry that stopped a run, by kind (1 break, 2 watch, 0 none) and address; its hits, but 0 where they do not count; and of a watch the byte that was
-// stored over, before and after.
+use console::rows::Row;
+
+#[derive(Clone, Copy, PartialEq, Eq)]
+pub enum Kind {
+    Break,
+    Watch,
+}
+
+impl Kind {
+    // By the number that a list's entry has; 0 is none.
+    pub fn numbered(n: u16) -> Option<Kind>
+        ensures none { n ≡ 0 → result ≡ None }
+        ensures watch { n ≡ 2 → result ≡ Some Watch }
+        ensures other { 0 < n → IsSome result }
+    {
+        match n {
+            0 => None,
+            2 => Some(Kind::Watch),
+            _ => Some(Kind::Break),
+        }
+    }
+}
+
+// The entry that stopped a run, by kind and address; its hits, where they count; and of a watch the byte that was stored over, before and after.
 #[derive(Clone, Copy)]
 pub struct Stop {
-    pub kind: u16,
+    pub kind: Kind,
     pub address: u16,
-    pub hits: u16,
+    pub hits: Option<u16>,
     pub old: u8,
     pub new: u8,
 }
 
-// Neither a break nor a watch.
-pub fn none() -> Stop {
-    Stop {
-        kind: 0,
-        address: 0,
-        hits: 0,
-        old: 0,
-        new: 0,
+// The entry.
+fn put_entry(row: &mut Row, stop: Stop) {
+    match stop.kind {
+        Kind::Break => row.put_all(b"break "),
+        Kind::Watch => row.put_all(b"watch "),
+    }
+    row.put_hex(stop.address, 4);
+}
+
+// How often it was hit.
+fn put_hits(row: &mut Row, hits: u16) {
+    row.put_all(b" (hit ");
+    row.put_decimal(hits, 1);
+    row.put(b')');
+}
+
+// What became of a watch's byte.
+fn put_byte(row: &mut Row, stop: Stop) {
+    row.put_all(b": [");
+    row.put_hex(stop.address, 4);
+    row.put_all(b"] ");
+    row.put_hex(stop.old as u16, 2);
+    row.put_all(b" -> ");
+    row.put_hex(stop.new as u16, 2);
+}
+
+fn put(row: &mut Row, stop: Stop) {
+    put_entry(row, stop);
+    if let Some(hits) = stop.hits {
+        put_hits(row, hits);
+    }
+    if stop.kind == Kind::Watch {
+        put_byte(row, stop);
     }
 }
 
-fn put_kind(row: &mut [u8], kind: u16) -> usize {
-    if kind == 2 {
-        return rows::put_all(row, 0, b"watch ");
-    }
-    rows::put_all(row, 0, b"break ")
-}
-
-// How often it was hit; a step back hits nothing.
-fn put_hits(row: &mut [u8], at: usize, hits: u16) -> usize {
-    if hits == 0 {
-        return at;
-    }
-    let p = rows::put_all(row, at, b" (hit ");
-    let q = rows::put_decimal(row, p, hits, 1);
-    rows::put(row, q, b')')
-}
-
-// What became of the byte.
-fn put_byte(row: &mut [u8], at: usize, s: Stop) -> usize {
-    if s.kind != 2 {
-        return at;
-    }
-    let mut p = rows::put_all(row, at, b": [");
-    p = rows::put_hex(row, p, s.address, 4);
-    p = rows::put_all(row, p, b"] ");
-    p = rows::put_hex(row, p, s.old as u16, 2);
-    p = rows::put_all(row, p, b" -> ");
-    rows::put_hex(row, p, s.new as u16, 2)
-}
-
-// The cause, at the start of a row: how long it is.
-pub fn put(row: &mut [u8], s: Stop) -> usize {
-    if s.kind == 0 {
-        return 0;
-    }
-    let p = put_kind(row, s.kind);
-    let q = rows::put_hex(row, p, s.address, 4);
-    let r = put_hits(row, q, s.hits);
-    put_byte(row, r, s)
+// The cause, in words that are put into the room; none where neither a break nor a watch stopped the run.
+pub fn told<'a>(room: &'a mut [u8], stop: Option<Stop>) -> Option<&'a [u8]> {
+    let stop = stop?;
+    let mut row = Row::new(room);
+    put(&mut row, stop);
+    Some(row.finished())
 }

@@ -1,136 +1,125 @@
 // What an order's calls did, told.
-use crate::outcomes;
 use crate::outcomes::Outcome;
 use orders::Order;
-use panel::{code, parts, refusals, status};
+use panel::status::{Noun, Walk};
+use panel::view::View;
+use panel::{code, status};
 
 // Of several bytes, how many went in before the one that was refused.
 fn keys(rt: &impl Print, o: Outcome, of: usize) {
-    refusals::say(rt, o.refusal);
-    if (o.refusal == 0) | (of < 2) {
-        return;
+    o.say(rt);
+    if o.refusal.is_some() & (2 <= of) {
+        report::decimal(rt, o.calls);
+        report::text(rt, b" of ");
+        report::decimal(rt, of as u64);
+        report::text(rt, b" bytes were received\n");
     }
-    report::decimal(rt, o.calls);
-    report::text(rt, b" of ");
-    report::decimal(rt, of as u64);
-    report::text(rt, b" bytes were received\n");
 }
 
 // What was taken back, and what refused the rest.
-fn back(rt: &impl Print, o: Outcome, of: u64, state: &[u16; 32], ram: &[u8], cause: &[u8]) {
-    if !outcomes::is_refused(o) {
-        status::after_back(rt, state, ram, o.calls, of, cause);
+fn back(rt: &impl Print, o: Outcome, asked: Option<u16>, view: View, cause: Option<&[u8]>) {
+    if !o.is_refused() {
+        let walk = Walk {
+            noun: status::STEPS_BACK,
+            steps: o.calls,
+            asked: asked.map(|n| n as u64),
+            bus: None,
+            cause,
+        };
+        status::after(rt, view, walk);
     }
-    refusals::say(rt, o.refusal);
-}
-
-// What was done, and why it stopped.
-fn ran(rt: &impl Print, o: Outcome, of: u64, state: &[u16; 32], ram: &[u8], otherwise: &[u8]) {
-    refusals::say(rt, o.refusal);
-    if outcomes::is_refused(o) {
-        return;
-    }
-    if o.is_halted {
-        status::after_steps(rt, state, ram, o.steps, of, o.bus, b"halted");
-        return;
-    }
-    status::after_steps(rt, state, ram, o.steps, of, o.bus, otherwise);
-}
-
-// The instruction that was stored.
-fn instruction(rt: &impl Print, o: Outcome, at: u16, state: &[u16; 32], ram: &[u8]) {
-    refusals::say(rt, o.refusal);
-    code::show(rt, state, ram, at);
-    report::end(rt);
-}
-
-// The entry that stopped a run, or else another cause.
-fn or<'a>(entry: &'a [u8], otherwise: &'a [u8]) -> &'a [u8] {
-    if entry.len() == 0 {
-        return otherwise;
-    }
-    entry
+    o.say(rt);
 }
 
 // What was run back.
-fn ran_back(rt: &impl Print, o: Outcome, of: u64, state: &[u16; 32], ram: &[u8], entry: &[u8]) {
-    if parts::held(state) == 0 {
-        back(rt, o, of, state, ram, or(entry, b"no record left"));
-        return;
-    }
-    back(rt, o, of, state, ram, or(entry, b"budget used up"));
+fn ran_back(rt: &impl Print, o: Outcome, asked: Option<u16>, view: View, entry: Option<&[u8]>) {
+    let otherwise: &[u8] = match view.held() {
+        0 => b"no record left",
+        _ => b"budget used up",
+    };
+    back(rt, o, asked, view, Some(entry.unwrap_or(otherwise)));
 }
 
-fn tell(rt: &impl Print, order: Order, o: Outcome, state: &[u16; 32], ram: &[u8], entry: &[u8]) {
+// What was done, and why it stopped.
+fn ran(rt: &impl Print, o: Outcome, asked: Option<u16>, view: View, otherwise: &[u8]) {
+    o.say(rt);
+    if o.is_refused() {
+        return;
+    }
+    let cause = if o.is_halted { b"halted" } else { otherwise };
+    let walk = Walk {
+        noun: status::STEPS,
+        steps: o.steps,
+        asked: asked.map(|n| n as u64),
+        bus: Some(o.bus),
+        cause: Some(cause),
+    };
+    status::after(rt, view, walk);
+}
+
+// The instruction that was stored.
+fn instruction(rt: &impl Print, o: Outcome, at: u16, view: View) {
+    o.say(rt);
+    code::show(rt, view, at);
+    report::end(rt);
+}
+
+// The refusal of a byte sent, if it was refused.
+fn sent(rt: &impl Print, o: Outcome) {
+    if let Some(why) = o.refusal {
+        why.say_of_sent(rt);
+    }
+}
+
+// Why a run stopped that no entry stopped, and that did not halt.
+fn end(asked: Option<u16>) -> &'static [u8] {
+    match asked {
+        Some(_) => b"budget used up",
+        None => b"stopped at the limit of 6,553,500 steps",
+    }
+}
+
+fn tell(rt: &impl Print, order: Order, o: Outcome, view: View, entry: Option<&[u8]>) {
     match order {
-        Order::Back(n) => back(rt, o, n as u64, state, ram, b""),
-        Order::Keys(n) => keys(rt, o, n),
-        Order::Sent => refusals::say_of_sent(rt, o.refusal),
-        Order::Steps(n) => ran(rt, o, n as u64, state, ram, b"done"),
-        Order::Run(n) => ran(rt, o, n as u64, state, ram, or(entry, b"budget used up")),
-        Order::RunOn => ran(
-            rt,
-            o,
-            0,
-            state,
-            ram,
-            or(entry, b"stopped at the limit of 6,553,500 steps"),
-        ),
-        Order::RunBack(n) => ran_back(rt, o, n as u64, state, ram, entry),
-        Order::RunBackOn => ran_back(rt, o, 0, state, ram, entry),
-        Order::Code(at) => instruction(rt, o, at, state, ram),
-        _ => refusals::say(rt, o.refusal),
+        Order::Back(n) => back(rt, o, Some(n), view, None),
+        Order::Keys(bytes) => keys(rt, o, bytes.len()),
+        Order::Sent => sent(rt, o),
+        Order::Steps(n) => ran(rt, o, Some(n), view, b"done"),
+        Order::Run(asked) => ran(rt, o, asked, view, entry.unwrap_or(end(asked))),
+        Order::RunBack(asked) => ran_back(rt, o, asked, view, entry),
+        Order::Code(at, _) => instruction(rt, o, at, view),
+        _ => o.say(rt),
     }
 }
 
 // Whether what an order changed is shown. What was stored is said before, and need not be.
 fn is_shown(order: Order) -> bool {
-    match order {
-        Order::Nothing => false,
-        Order::Pokes(at, n) => false,
-        Order::Image(at, n) => false,
-        Order::Code(at) => false,
-        _ => true,
-    }
+    !matches!(order, Order::Pokes(_, _) | Order::Code(_, _))
 }
 
 // What the calls did is told, with the entry that stopped them if one did; whether what they changed is to be shown.
-pub fn told(
-    rt: &impl Print,
-    order: Order,
-    o: Outcome,
-    state: &[u16; 32],
-    ram: &[u8],
-    entry: &[u8],
-) -> bool {
-    tell(rt, order, o, state, ram, entry);
-    is_shown(order) & !outcomes::is_refused(o)
-}
-
-fn one_at_most(steps: u64) -> u64 {
-    if steps == 0 {
-        return 0;
-    }
-    1
+pub fn told(rt: &impl Print, order: Order, o: Outcome, view: View, entry: Option<&[u8]>) -> bool {
+    tell(rt, order, o, view, entry);
+    is_shown(order) & !o.is_refused()
 }
 
 // Of how many steps, the last ones, it is told which stores were dropped: of all that step did, and of the last that execute did.
 pub fn steps_told(order: Order, o: Outcome) -> u64 {
     match order {
-        Order::Steps(n) => o.steps,
-        Order::Run(n) => one_at_most(o.steps),
-        Order::RunOn => one_at_most(o.steps),
+        Order::Steps(_) => o.steps,
+        Order::Run(_) => o.steps.min(1),
         _ => 0,
     }
 }
 
 // A line after each run of many.
-pub fn progress(rt: &impl Print, order: Order, steps: u64, state: &[u16; 32], ram: &[u8]) {
-    match order {
-        Order::RunOn => {
-            status::place(rt, state, ram);
-            status::count(rt, steps, b"step so far\n", b"steps so far\n");
-        }
-        _ => {}
+pub fn progress(rt: &impl Print, order: Order, steps: u64, view: View) {
+    let noun = Noun {
+        one: b"step so far\n",
+        more: b"steps so far\n",
+    };
+    if let Order::Run(None) = order {
+        status::place(rt, view);
+        noun.count(rt, steps);
     }
 }

@@ -1,97 +1,73 @@
 // What origin found, told.
 use crate::inputs::Input;
-use console::{texts, words};
-use orders::Order;
-use panel::{changes, parts, status};
+use orders::Asked;
+use panel::status::Noun;
+use panel::view::View;
+use panel::{changes, status};
 
 // What is asked about, as it is.
-pub fn value_in(order: Order, state: &[u16; 32], ram: &[u8]) -> u16 {
-    match order {
-        Order::OriginOfByte(a) => words::byte_at(ram, a as usize) as u16,
-        Order::OriginOfPart(n) => parts::value(state, n),
-        _ => 0,
+pub fn value_in(asked: Asked, view: View) -> u16 {
+    match asked {
+        Asked::Byte(a) => view.ram.get(a as usize).copied().unwrap_or(0) as u16,
+        Asked::Part(part) => part.value(view.state),
     }
 }
 
-fn name(rt: &impl Print, order: Order) {
-    match order {
-        Order::OriginOfByte(a) => changes::place_name(rt, a),
-        Order::OriginOfPart(n) => {
-            parts::name(rt, n);
-        }
-        _ => {}
+fn name(rt: &impl Print, asked: Asked) {
+    match asked {
+        Asked::Byte(a) => changes::place_name(rt, a),
+        Asked::Part(part) => report::text(rt, part.name()),
     }
 }
 
-fn width(order: Order) -> usize {
-    match order {
-        Order::OriginOfByte(a) => 2,
-        _ => 4,
+fn width(asked: Asked) -> usize {
+    match asked {
+        Asked::Byte(_) => 2,
+        Asked::Part(_) => 4,
     }
 }
 
-fn tell_at(rt: &impl Print, pc: u16) {
-    report::text(rt, b" at ");
-    report::hex(rt, pc as u64, 4);
-}
-
-// The instruction at pc, or the entry there.
-fn tell_step(rt: &impl Print, is_entry: bool, w: u16, pc: u16) {
-    if is_entry {
-        report::text(rt, b"the entry to an interrupt");
-    } else {
-        status::instruction(rt, w);
+// The instruction at pc, or the entry there, or an input from outside.
+fn tell_input(rt: &impl Print, input: Input, w: u16, pc: u16) {
+    match input {
+        Input::Instruction => status::instruction(rt, w),
+        Input::Interrupt => report::text(rt, b"the entry to an interrupt"),
+        Input::Poke => report::text(rt, b"a poke"),
+        Input::Tick => report::text(rt, b"a tick"),
+        Input::Key => report::text(rt, b"a byte from the keyboard"),
+        Input::Sent => report::text(rt, b"sent"),
+        Input::Reset => report::text(rt, b"reset"),
+        Input::Hand => report::text(rt, b"hand"),
     }
-    tell_at(rt, pc);
-}
-
-// An input from outside, by its line here.
-fn tell_outside(rt: &impl Print, n: u8) {
-    texts::show(
-        rt,
-        b"a poke
-a tick
-a byte from the keyboard
-sent
-reset
-hand
-",
-        n,
-    );
-}
-
-fn tell_input(rt: &impl Print, i: Input, w: u16, pc: u16) {
-    match i {
-        Input::Instruction => tell_step(rt, false, w, pc),
-        Input::Interrupt => tell_step(rt, true, w, pc),
-        Input::Poke => tell_outside(rt, 0),
-        Input::Tick => tell_outside(rt, 1),
-        Input::Key => tell_outside(rt, 2),
-        Input::Sent => tell_outside(rt, 3),
-        Input::Reset => tell_outside(rt, 4),
-        Input::Hand => tell_outside(rt, 5),
+    if let Input::Instruction | Input::Interrupt = input {
+        report::text(rt, b" at ");
+        report::hex(rt, pc as u64, 4);
     }
 }
 
 // What changed, from and to what.
-pub fn tell_change(rt: &impl Print, order: Order, old: u16, new: u16) {
-    name(rt, order);
-    changes::arrow(rt, old, new, width(order));
+pub fn tell_change(rt: &impl Print, asked: Asked, old: u16, new: u16) {
+    name(rt, asked);
+    changes::arrow(rt, old, new, width(asked));
 }
 
 // By which input at pc, how long ago.
-pub fn tell_by(rt: &impl Print, i: Input, w: u16, pc: u16, records: u16) {
+pub fn tell_by(rt: &impl Print, input: Input, w: u16, pc: u16, records: u16) {
+    let noun = Noun {
+        one: b"record ago\n",
+        more: b"records ago\n",
+    };
     report::text(rt, b" by ");
-    tell_input(rt, i, w, pc);
+    tell_input(rt, input, w, pc);
     report::text(rt, b", ");
-    status::count(rt, records as u64, b"record ago\n", b"records ago\n");
+    noun.count(rt, records as u64);
 }
 
 // That no record changed it.
-pub fn tell_none(rt: &impl Print, order: Order, value: u16, held: u16) {
-    name(rt, order);
+pub fn tell_none(rt: &impl Print, asked: Asked, value: u16, held: u16) {
+    name(rt, asked);
     report::text(rt, b" is ");
-    report::hex(rt, value as u64, width(order));
+    report::hex(rt, value as u64, width(asked));
     report::text(rt, b"; none of the ");
     report::decimal(rt, held as u64);
     report::text(rt, b" records held changed it\n");

@@ -1,5 +1,6 @@
 // Which input leads from one state to another, by what changed. The journal does not say.
 use panel::parts;
+use panel::parts::Part;
 
 // A step that changed something was an instruction or the entry to an interrupt; the other inputs come from outside the program.
 #[derive(Clone, Copy)]
@@ -16,43 +17,31 @@ pub enum Input {
 
 // Whether two states have the same parts.
 pub fn same(a: &[u16; 32], b: &[u16; 32]) -> bool {
-    let mut n: u8 = 0;
-    while n < parts::PARTS {
-        if parts::value(a, n) != parts::value(b, n) {
-            return false;
-        }
-        n += 1;
-    }
-    true
+    parts::ALL.iter().all(|part| part.value(a) == part.value(b))
 }
 
 // A step from this state: where an interrupt is due it enters the handler.
 pub fn stepped(before: &[u16; 32]) -> Input {
     let f = parts::f(before);
     if (f / 256 % 2 == 1) & (512 <= f) {
-        return Input::Interrupt;
+        Input::Interrupt
+    } else {
+        Input::Instruction
     }
-    Input::Instruction
-}
-
-// Whether a part was 0 and is 1.
-fn is_raised(before: &[u16; 32], after: &[u16; 32], n: u8) -> bool {
-    parts::value(before, n) < parts::value(after, n)
 }
 
 // The input from outside that changes registers; the starting state tells a reset.
 pub fn outside(before: &[u16; 32], after: &[u16; 32], start: &[u16; 32]) -> Input {
+    let is_raised = |part: Part| part.value(before) < part.value(after);
     if same(after, start) {
-        return Input::Reset;
+        Input::Reset
+    } else if Part::Clock.value(before) != Part::Clock.value(after) {
+        Input::Tick
+    } else if is_raised(Part::R) {
+        Input::Key
+    } else if is_raised(Part::T) {
+        Input::Sent
+    } else {
+        Input::Hand
     }
-    if parts::value(before, parts::CLOCK) != parts::value(after, parts::CLOCK) {
-        return Input::Tick;
-    }
-    if is_raised(before, after, parts::R) {
-        return Input::Key;
-    }
-    if is_raised(before, after, parts::T) {
-        return Input::Sent;
-    }
-    Input::Hand
 }
