@@ -55,6 +55,7 @@ digits-some (suc k) j x h l u = rw (ne_eqb x 0 (above_none j x l)) (⊎_elim low
         let m : 2 ^ suc j ≤ 2 ^ 8 = pow_mono {i = suc j} {j = 8} (omega arith) in
         let z : x / 256 ≡ 0 = omega (arith, m, u) in
         rw (digits-end k (x / 256) z) (omega arith)
+
     high : ((i : ℕ) → i < 8 * k → 2 ^ i ≤ x / 256 → x / 256 < 2 ^ suc i → length (digits k (x / 256)) ≡ i / 8 + 1) → 8 ≤ j → suc (length (digits k (x / 256))) ≡ j / 8 + 1
     high r b =
         let i = j - 8 in

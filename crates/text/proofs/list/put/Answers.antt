@@ -25,8 +25,7 @@ pub returns : goal.returns
 returns c =
     let t = key_text c.args.key in
     let k : c.args.at + c.width-n.result - c.args.at ≡ length t = omega (arith, c.width-n.ensures) in
-    let f = front (goal.at.returns c).After-to_le_bytes-bytes in
-    (
+    let f = front (goal.at.returns c).After-to_le_bytes-bytes in (
       omega (arith, c.width-n.ensures),
       rw (c.copy_from_slice.ensures.after, f, k, drop-drop (length t) c.args.at c.args.out.now, sets-eq t c.args.out.now c.args.at c.requires, append_assoc),
     )
