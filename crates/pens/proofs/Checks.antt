@@ -20,7 +20,7 @@ use Rattle.utf8.specs.declared.Unfit.TheVariants.{NotUtf8, NotLatin}
 use Rattle.manifests.specs.declared.Held.{Held}
 use Rattle.pens.specs.Code.{refusal_number}
 use Rattle.pens.specs.declared.checking.Refusal.{Refusal}
-use Rattle.pens.specs.declared.checking.Refusal.TheVariants.{Machine, NoRegister, NotHeld, Name, NoRoom}
+use Rattle.pens.specs.declared.checking.Refusal.TheVariants.{Machine, NotHeld, Name, NoRoom}
 use Rattle.pens.specs.Pen.{address_in, given_in, all_registers, judged_check, name_check, first_check, pen_check, refused, unless_refused, preparing, made, matching, reported, pen_named}
 
 -- ---- room in RAM
@@ -50,7 +50,6 @@ refuses (Machine Whys.NoRegister) e = omega (arith, e)
 refuses (Machine Whys.NotRam) e = omega (arith, e)
 refuses (Machine Whys.NoRecord) e = omega (arith, e)
 refuses (Machine Whys.BadRecord) e = omega (arith, e)
-refuses NoRegister e = omega (arith, e)
 refuses NotHeld e = omega (arith, e)
 refuses (Name NotUtf8) e = omega (arith, e)
 refuses (Name NotLatin) e = omega (arith, e)

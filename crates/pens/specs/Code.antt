@@ -10,8 +10,8 @@ use Rattle.bus.specs.State.{word}
 use Rattle.pens.specs.Pen.{Penned, pen_named}
 use Rattle.utf8.specs.declared.Unfit.TheVariants.{NotUtf8, NotLatin}
 use Rattle.pens.specs.declared.checking.Refusal.{Refusal}
-use Rattle.pens.specs.declared.checking.Refusal.TheVariants.{Machine, NoRegister, NotHeld, Name, NoRoom}
-use Rattle.pens.specs.declared.Run.{Run as RunT}
+use Rattle.pens.specs.declared.checking.Refusal.TheVariants.{Machine, NotHeld, Name, NoRoom}
+use Rattle.calls.specs.declared.state.Machine.{Machine as MachineT}
 use Rattle.pens.specs.declared.Report.{Report}
 
 -- a pen by its line, looked up from heads; with the manifests' own, or without any, it is `pen_of` (`headed-pen`)
@@ -21,7 +21,6 @@ pen_from line today heads last more setup w = let h = held_from line today heads
 -- the number that the rules give a refusal
 abbrev pub refusal_number : Refusal → ℕ
 refusal_number (Machine why) = number_of why
-refusal_number NoRegister = 6
 refusal_number NotHeld = 83
 refusal_number (Name NotUtf8) = 80
 refusal_number (Name NotLatin) = 81
@@ -32,30 +31,32 @@ abbrev pub number_in : {T : Type 0} → Result T Refusal → ℕ
 number_in (Ok t) = 0
 number_in (Err why) = refusal_number why
 
--- what a run told; a refusal tells of none
-abbrev pub run_in : Result RunT Refusal → RunT
-run_in (Ok r) = r
-run_in (Err why) = record { r0 = 0; steps = 0; bus = 0; ending = Ending.Refused }
-
 abbrev pub report_as : Report → List ℕ → List ℕ → Penned
 report_as r ram ws =
-    let t = run_in r.result in
     record {
-      number = number_in r.result;
+      number = r.number;
       held = r.held;
-      r0 = t.r0;
-      steps = t.steps;
-      bus = t.bus;
-      ending = t.ending;
+      r0 = r.r0;
+      steps = r.steps;
+      bus = r.bus;
+      ending = r.ending;
       world = world_of r.machine ram ws;
     }
+
+-- a refusal as the code has it
+abbrev pub refuse : MachineT → Option Held → ℕ → Report
+refuse m h n = record { number = n; held = h; r0 = 0; steps = 0; bus = 0; ending = Ending.Refused; machine = m }
 
 -- what a run tells of a pen, as the code has it
 abbrev pub report_of : Option Held → WatchedT → Report
 report_of h r =
     let t = r.told in
     record {
-      result = Ok (record { r0 = word r.machine.cpu.regs 0; steps = t.steps; bus = t.bus; ending = t.ending });
+      number = 0;
       held = h;
+      r0 = word r.machine.cpu.regs 0;
+      steps = t.steps;
+      bus = t.bus;
+      ending = t.ending;
       machine = r.machine;
     }

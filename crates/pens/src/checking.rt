@@ -7,11 +7,10 @@ use calls::state;
 use manifests::Held;
 use utf8::Unfit;
 
-// Why a pen is refused: by what each call of the machine checks, for a given register, or by its name. A name in neither list counts before an unfit one.
+// Why a pen is refused: as the machine would refuse a call, also for a given register, or by its name. Each has a number of its own. A name in neither list counts before an unfit one.
 #[derive(Clone, Copy)]
 pub enum Refusal {
     Machine(state::Refusal),
-    NoRegister,
     NotHeld,
     Name(Unfit),
     NoRoom,
@@ -24,7 +23,6 @@ impl From<Refusal> for u8 {
     {
         match why {
             Refusal::Machine(why) => u8::from(why),
-            Refusal::NoRegister => 6,
             Refusal::NotHeld => 83,
             Refusal::Name(unfit) => match unfit {
                 Unfit::NotUtf8 => 80,

@@ -10,30 +10,40 @@ ghost use Rattle.std.specs.Prelude.{ℕ, ◌+◌, ◌≤◌, ◌≡◌, true, le
 ghost use Rattle.calls.specs.Calls.{world_of};
 ghost use Rattle.utf8.specs.Latin.{judged_of};
 ghost use Rattle.pens.specs.Pen.{all_registers, preparing, made, matching, reported, first_check, pen_check, pen_named};
-ghost use Rattle.pens.specs.Code.{number_in, pen_from, report_as};
+ghost use Rattle.pens.specs.Code.{refusal_number, number_in, pen_from, report_as, refuse};
 
-use calls::checks;
 use calls::state::Machine;
+use calls::{checks, state};
 pub use checking::Refusal;
 use manifests::Held;
 use utf8::Unfit;
 use watching::Ending;
 
-// What an accepted pen's run told: r0, its steps and bus bytes, and why it stopped.
+// A pen's answer: the refusal's number (0: accepted), where its name lies, r0, the run's steps and bus bytes, why it stopped, and the machine.
+// Kept flat, with a number: `report_from` and `single-pen` of pens_exact read any answer of the rules back as a report.
 #[derive(Clone, Copy)]
-pub struct Run {
+pub struct Report {
+    pub number: u8,
+    pub held: Option<Held>,
     pub r0: u16,
     pub steps: u16,
     pub bus: u32,
     pub ending: Ending,
+    pub machine: Machine,
 }
 
-// A pen's answer: its run or why it is refused, where its name lies, and the machine.
-#[derive(Clone, Copy)]
-pub struct Report {
-    pub result: Result<Run, Refusal>,
-    pub held: Option<Held>,
-    pub machine: Machine,
+fn refused(m: Machine, held: Option<Held>, why: Refusal) -> Report
+    ensures { result ≡ refuse m held (refusal_number why) }
+{
+    Report {
+        number: u8::from(why),
+        held,
+        r0: 0,
+        steps: 0,
+        bus: 0,
+        ending: Ending::Refused,
+        machine: m,
+    }
 }
 
 // The name poked, and the given registers set.
@@ -79,7 +89,7 @@ fn register_check(setup: &[u16]) -> Result<(), Refusal>
     if giving::are_registers(setup) {
         Ok(())
     } else {
-        Err(Refusal::NoRegister)
+        Err(Refusal::Machine(state::Refusal::NoRegister))
     }
 }
 
@@ -121,11 +131,7 @@ pub fn pen_named(
 {
     match pen_check(m, ram, journal, held, utf8::judge(name), setup) {
         Ok(n) => accepted(m, ram, journal, held, name, n, setup),
-        Err(why) => Report {
-            result: Err(why),
-            held,
-            machine: m,
-        },
+        Err(why) => refused(m, held, why),
     }
 }
 

@@ -6,7 +6,7 @@ ghost use Rattle.watched.specs.Code.{Watches};
 ghost use Rattle.pens.specs.Pen.{matching, reported};
 ghost use Rattle.pens.specs.Code.{report_as, report_of};
 
-use crate::{Report, Run, giving};
+use crate::{Report, giving};
 use calls::state::Machine;
 use entries::Entry;
 use manifests::Held;
@@ -35,13 +35,12 @@ fn told_of(held: Option<Held>, r: Watched) -> Report
     let regs = m.cpu.regs;
     let ending = told.ending;
     Report {
-        result: Ok(Run {
-            r0: regs[0],
-            steps: told.steps,
-            bus: told.bus,
-            ending,
-        }),
+        number: 0,
         held,
+        r0: regs[0],
+        steps: told.steps,
+        bus: told.bus,
+        ending,
         machine: m,
     }
 }
