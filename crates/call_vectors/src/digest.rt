@@ -1,25 +1,18 @@
 // What a call answers and leaves, and the lent bytes and words, absorbed one by one.
-use crate::lists::List;
 use bus::state::Board;
 use calls::state::{Answer, Machine, Refusal, Run, Stop};
+use entries::Points;
 use watching::{Ending, Told};
 use word::{choice, halves};
-
-pub fn absorbed<T: Copy + Into<u16>>(digest: u64, items: &[T]) -> u64 {
-    let mut h = digest;
-    for item in items {
-        h = report::absorb(h, (*item).into());
-    }
-    h
-}
 
 // A refusal's number, steps, bus bytes, and why a run stopped.
 fn numbers(h: u64, number: u8, steps: u16, bus: u32, cause: u16) -> u64 {
     let low = (bus % 65536) as u16;
     let high = (bus / 65536) as u16;
-    absorbed(h, &[u16::from(number), steps, low, high, cause])
+    report::absorb_words(h, &[u16::from(number), steps, low, high, cause])
 }
 
+// The causes by the vectors' own numbers, which no library has: so no `From` of theirs.
 fn cause(stop: Stop) -> u16 {
     match stop {
         Stop::Budget => 1,
@@ -32,7 +25,7 @@ fn ran(h: u64, run: Run) -> u64 {
 }
 
 fn refused(h: u64, why: Refusal) -> u64 {
-    numbers(h, calls::state::number(why), 0, 0, 0)
+    numbers(h, u8::from(why), 0, 0, 0)
 }
 
 fn answered(h: u64, answer: Answer) -> u64 {
@@ -62,7 +55,8 @@ fn left(h: u64, m: Machine) -> u64 {
         p.first,
         p.last,
     ];
-    absorbed(absorbed(absorbed(h, &c.regs), &c.csrs), &others)
+    let registers = report::absorb_words(report::absorb_words(h, &c.regs), &c.csrs);
+    report::absorb_words(registers, &others)
 }
 
 pub fn called(h: u64, answer: Answer, m: Machine) -> u64 {
@@ -84,10 +78,10 @@ pub fn ended_run(h: u64, number: u8, told: Told, m: Machine) -> u64 {
     left(report::absorb(why, (told.place % 65536) as u16), m)
 }
 
-// All 64 entries, lent or not.
-pub fn listed(h: u64, l: &List) -> u64 {
-    let count = report::absorb(h, (l.points.count % 65536) as u16);
-    let addresses = absorbed(count, &l.points.addresses);
-    let kinds = absorbed(addresses, &l.points.kinds);
-    absorbed(kinds, &l.hits)
+// All 64 entries, lent or not: their addresses, then their kinds, then their hits.
+pub fn listed(h: u64, l: &Points) -> u64 {
+    let count = report::absorb(h, (l.count % 65536) as u16);
+    let addresses = report::absorb_words(count, &l.entries.map(|e| e.address));
+    let kinds = report::absorb_words(addresses, &l.entries.map(|e| e.kind));
+    report::absorb_words(kinds, &l.entries.map(|e| e.hits))
 }

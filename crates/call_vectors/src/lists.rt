@@ -1,40 +1,18 @@
-// The list of watched runs: addresses and kinds, with the hits beside them, since a watched run takes no hits. Kinds 21 to 23 arrange it.
+// The list of watched runs: entries with their hits, of which a run takes no notice. Kinds 21 and 22 arrange it.
 use entries::{Met, Points};
 
-#[derive(Clone, Copy)]
-pub struct List {
-    pub points: Points,
-    pub hits: [u16; 64],
-}
-
-pub fn empty() -> List {
-    List {
-        points: entries::none(),
-        hits: [0u16; 64],
-    }
-}
-
-pub fn set_entry(l: &mut List, place: u8, address: u16, kind: u16) {
+pub fn set_entry(l: &mut Points, place: u8, address: u16, kind: u16) {
     let i = usize::from(place % 64);
-    l.points.addresses[i] = address;
-    l.points.kinds[i] = kind;
+    l.entries[i].address = address;
+    l.entries[i].kind = kind;
 }
 
-pub fn set_hits(l: &mut List, place: u8, hits: u16) {
-    l.hits[usize::from(place % 64)] = hits;
-}
-
-fn is_met(address: u16, kind: u16, x: Met) -> bool {
-    entries::first(&[address], &[kind], x) == 0
+pub fn set_hits(l: &mut Points, place: u8, hits: u16) {
+    l.entries[usize::from(place % 64)].hits = hits;
 }
 
 // The hits of the lent entries that are met rise by one.
-pub fn mark(l: &mut List, x: Met) {
-    let p = l.points;
-    let entries = p.addresses.iter().zip(p.kinds.iter()).take(p.count);
-    for ((address, kind), hits) in entries.zip(l.hits.iter_mut()) {
-        if is_met(*address, *kind, x) {
-            *hits = hits.saturating_add(1);
-        }
-    }
+pub fn mark(l: &mut Points, x: Met) {
+    let n = l.count.min(64);
+    entries::mark(&mut l.entries[..n], x);
 }

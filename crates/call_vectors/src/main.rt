@@ -60,7 +60,7 @@ fn obey(rt: &impl Print, d: &mut Desk, c: Command) {
             kind,
         } => lists::set_entry(&mut d.list, place, address, kind),
         Command::Hits { place, hits } => lists::set_hits(&mut d.list, place, hits),
-        Command::EntriesLent(entries) => d.list.points.count = usize::from(entries),
+        Command::EntriesLent(entries) => d.list.count = usize::from(entries),
         Command::Nothing => {}
     }
 }

@@ -12,7 +12,7 @@ pub fn make(d: &mut Desk, call: Call) {
 
 pub fn watched_run(d: &mut Desk, budget: u16) {
     let m = d.machine;
-    let points = d.list.points;
+    let points = d.list;
     let r = watched::run_points(m, d.ram.lent(), d.journal.lent(), points, budget);
     d.machine = r.machine;
     lists::mark(&mut d.list, r.told.met);

@@ -1,5 +1,4 @@
 // What of the machine is arranged for the calls to find, and the line that is printed.
-use crate::digest;
 use crate::state::Desk;
 use bus::state::{Cpu, Stretch};
 
@@ -14,8 +13,8 @@ pub fn set_stretch(c: &mut Cpu, first: u16, last: u16) {
 
 // A line, from whose digest the next goes on. There are fewer than 65,536 lines.
 pub fn show(rt: &impl Print, d: &mut Desk) {
-    let g = digest::absorbed(d.digest, d.ram.lent());
-    let h = digest::absorbed(g, d.journal.lent());
+    let g = report::absorb_bytes(d.digest, d.ram.lent());
+    let h = report::absorb_words(g, d.journal.lent());
     report::decimal(rt, u64::from(d.line));
     report::space(rt);
     report::hex(rt, h, 8);

@@ -1,13 +1,13 @@
 // What stays from command to command.
+use crate::buffers;
 use crate::buffers::Buffer;
-use crate::lists::List;
-use crate::{buffers, lists};
 use calls::state::Machine;
+use entries::Points;
 
 #[derive(Drop)]
 pub struct Desk<'a> {
     pub machine: Machine,
-    pub list: List,
+    pub list: Points,
     pub digest: u64,
     pub ram: Buffer<'a, u8>,
     pub journal: Buffer<'a, u16>,
@@ -23,7 +23,7 @@ fn unprotected() -> Machine {
 pub fn opened<'a>(ram: &'a mut [u8], journal: &'a mut [u16]) -> Desk<'a> {
     Desk {
         machine: unprotected(),
-        list: lists::empty(),
+        list: entries::none(),
         digest: 1,
         ram: Buffer { all: ram, lent: 0 },
         journal: Buffer {
@@ -39,6 +39,6 @@ pub fn start(d: &mut Desk, from: u8) {
     buffers::fill(d.ram.all, from);
     d.journal.all.fill(0);
     d.machine = unprotected();
-    d.list = lists::empty();
+    d.list = entries::none();
     d.digest = 1;
 }
