@@ -5,12 +5,13 @@ ghost use Rattle.std.specs.Prelude.{◌≡◌, length};
 
 use bus::state::Stretch;
 use console::arguments::Settings;
-use console::commands::Found;
-use console::lines::Line;
+use console::commands::Command;
 use console::{arguments, commands, files, words};
 use orders::images;
 use sitting::state::Desk;
 use sitting::{input, own, state};
+use stopping::lent;
+use stopping::lent::Lent;
 
 // Of each room the `ensures` gives only the length, so that no proof writes the zeros out.
 fn ram_room() -> [u8; 65504]
@@ -25,112 +26,74 @@ fn journal_room() -> [u16; 32768]
     [0u16; 32768]
 }
 
-// The command of a row's letter, of which the line goes on at a place. A letter has one arm, in `orders` or in `sitting`, and goes through the other as it came.
-fn obey(
-    rt: &HostRuntime,
-    letter: u8,
-    d: Desk,
-    line: &[u8],
-    at: usize,
-    machine: &mut [u16; 32],
-    ram: &mut [u8],
-    journal: &mut [u16],
-) -> Desk {
-    let s = d.stops;
-    let after = operating::operate(rt, letter, line, at, s, machine, ram, journal);
-    let e = state::with_stops(d, after);
-    own::tend(rt, letter, e, line, at, machine, ram, journal.len() / 32)
+// A command, by the line behind its name. Each is one on the machine, in `orders`, or one on the desk, in `sitting`, and goes through the other as it came.
+fn obey(rt: &HostRuntime, command: Command, d: &mut Desk, line: &[u8], lent: &mut Lent) {
+    operating::operate(rt, command, line, &mut d.stops, lent);
+    let slots = lent.journal.len() / 32;
+    let _ = own::tend(rt, command, d, line, lent.view(), slots);
 }
 
 // A line: a command, or nothing, or a remark that begins with #.
-fn perform(
-    rt: &HostRuntime,
-    d: Desk,
-    line: &[u8],
-    machine: &mut [u16; 32],
-    ram: &mut [u8],
-    journal: &mut [u16],
-) -> Desk {
-    let p = words::next(line, 0);
-    let name = words::cut(line, p);
-    if (name.len() == 0) | (words::byte_at(name, 0) == b'#') {
-        return d;
+fn perform(rt: &HostRuntime, d: &mut Desk, line: &[u8], lent: &mut Lent) {
+    let Some((name, rest)) = words::next(line) else {
+        return;
+    };
+    if name.starts_with(b"#") {
+        return;
     }
-    let f = commands::find(rt, name);
-    if let Found::Is(letter) = f {
-        return obey(rt, letter, d, line, p.to, machine, ram, journal);
+    match commands::find(name) {
+        Ok(command) => obey(rt, command, d, rest, lent),
+        Err(why) => commands::unfound(rt, why, name),
     }
-    commands::unfound(rt, f, name);
-    d
 }
 
 // The next line from where commands come from now, done.
-fn turn(
-    rt: &HostRuntime,
-    d: Desk,
-    machine: &mut [u16; 32],
-    ram: &mut [u8],
-    journal: &mut [u16],
-) -> Desk {
+fn turn(rt: &HostRuntime, d: &mut Desk, lent: &mut Lent) {
     let mut room = io::buffer();
-    let mut before = d;
-    let l = input::next(rt, &mut before, &mut room);
-    let Line::Is(n) = l else {
-        return input::unread(rt, before, l);
+    let Some(n) = input::next(rt, d, &mut room) else {
+        return;
     };
     let line = words::front(&room, n);
-    let mark = state::marked(&before);
-    let mut e = perform(rt, before, line, machine, ram, journal);
-    state::log(mark, &mut e, line);
-    e
+    let mark = state::marked(d);
+    perform(rt, d, line, lent);
+    state::log(mark, d, line);
 }
 
 // The machine at the start, with its protected addresses.
-fn started(s: Settings) -> [u16; 32] {
-    let stretch = Stretch {
-        first: s.first,
-        last: s.last,
-    };
-    boundary::words::start(stretch)
+fn started(stretch: Option<(u16, u16)>) -> [u16; 32] {
+    let (first, last) = stretch.unwrap_or((1, 0));
+    boundary::words::start(Stretch { first, last })
 }
 
-// A proved loop has to end, and nothing says that the input does. So the loop counts its turns down, from a number that no one uses up.
-fn session(rt: &HostRuntime, s: Settings, ram: &mut [u8], journal: &mut [u16]) {
+// A proved loop has to end, and nothing says that the input does. So the loop counts its turns, up to a number that no one uses up.
+fn session(rt: &HostRuntime, stretch: Option<(u16, u16)>, ram: &mut [u8], journal: &mut [u16]) {
     let mut d = state::opened(rt);
-    let mut machine = started(s);
-    let mut turns = u64::MAX;
-    while turns > 0 {
-        d = turn(rt, d, &mut machine, ram, journal);
+    let mut machine = started(stretch);
+    let mut lent = lent::of(&mut machine, ram, journal);
+    for _ in 0..u64::MAX {
+        turn(rt, &mut d, &mut lent);
         if d.is_over {
             return;
         }
-        turns -= 1;
     }
 }
 
 // The memory at the start is the image, or zeros.
 fn begin(rt: &HostRuntime, s: Settings, ram: &mut [u8], journal: &mut [u16]) {
-    if images::start_image(rt, s.image, ram) {
-        arguments::tell_stretch(rt, s);
-        session(rt, s, ram, journal);
+    if images::start_image(rt, s.image, ram).is_ok() {
+        arguments::tell_stretch(rt, s.board.stretch);
+        session(rt, s.board.stretch, ram, journal);
     }
 }
 
 fn main(rt: HostRuntime) {
     files::hold_standard(&rt);
-    let s = arguments::read(&rt);
-    let bytes = s.ram;
-    let words = s.words;
-    if !s.is_good {
+    let Some(s) = arguments::read(&rt) else {
         return;
-    }
-    if 65504 < bytes {
-        return;
-    }
-    if 32768 < words {
-        return;
-    }
+    };
+    let bytes = s.board.ram.min(65504);
+    let words = s.board.words.min(32768);
     let mut ram = ram_room();
     let mut journal = journal_room();
-    begin(&rt, s, &mut ram[0..bytes], &mut journal[0..words]);
+    begin(&rt, s, &mut ram[..bytes], &mut journal[..words]);
 }

@@ -1,33 +1,29 @@
 // The calls that an order asks for, made.
-use console::words;
 use machine::Call;
-use orders::{Order, RUNS, images};
+use orders::{Order, RUNS};
+use stopping::lent::Lent;
+use telling::deeds;
 use telling::outcomes::Outcome;
-use telling::{deeds, outcomes};
 use word::sums;
 
-// How many calls.
+// How many calls. Which call is made is data, as `call` says, and one loop makes them: closures would carry the same match. An order that goes by the breaks and watches, or asks for an origin, has none here.
 fn count(order: Order) -> usize {
     match order {
-        Order::Nothing => 0,
-        Order::OriginOfByte(a) => 0,
-        Order::OriginOfPart(n) => 0,
-        Order::Tick(n) => n as usize,
-        Order::Back(n) => n as usize,
-        Order::Keys(n) => n,
-        Order::Pokes(at, n) => n,
-        Order::Image(at, n) => n,
-        Order::RunBack(n) => 0,
-        Order::RunBackOn => 0,
-        Order::Code(at) => 2,
-        Order::Steps(n) => 2,
-        Order::RunOn => RUNS,
-        _ => 1,
+        Order::Tick(n) | Order::Back(n) => usize::from(n),
+        Order::Keys(bytes) | Order::Pokes(_, bytes) | Order::Code(_, bytes) => bytes.len(),
+        Order::Steps(_) => 2,
+        Order::Run(None) => RUNS,
+        Order::Run(Some(_)) | Order::Sent | Order::Reset | Order::Set(_, _) => 1,
+        Order::RunBack(_) | Order::Origin(_) => 0,
     }
 }
 
+fn byte_at(bytes: &[u8], i: usize) -> u8 {
+    bytes.get(i).copied().unwrap_or(0)
+}
+
 fn poke(at: u16, i: usize, bytes: &[u8]) -> Call {
-    Call::Poke(sums::plus(at, (i % 65536) as u16), words::byte_at(bytes, i))
+    Call::Poke(sums::plus(at, (i % 65536) as u16), byte_at(bytes, i))
 }
 
 // The first step alone, so that a halted machine refuses it, and the others as a run.
@@ -35,68 +31,36 @@ fn step(n: u16, i: usize) -> Call {
     if i == 0 {
         return Call::Step;
     }
-    if n == 0 {
-        return Call::Run(0);
-    }
-    Call::Run(n - 1)
+    Call::Run(n.saturating_sub(1))
 }
 
 // A call by its number, from 0 on; where there is none, one that does nothing.
-fn call(order: Order, i: usize, bytes: &[u8]) -> Call {
+fn call(order: Order, i: usize) -> Call {
     match order {
-        Order::Tick(n) => Call::Tick,
-        Order::Back(n) => Call::Back,
+        Order::Tick(_) => Call::Tick,
+        Order::Back(_) => Call::Back,
         Order::Sent => Call::Sent,
         Order::Reset => Call::Reset,
-        Order::Set(n, content) => Call::SetRegister(n, content),
-        Order::Keys(n) => Call::Receive(words::byte_at(bytes, i)),
-        Order::Pokes(at, n) => poke(at, i, bytes),
-        Order::Image(at, n) => poke(at, i, bytes),
-        Order::Code(at) => poke(at, i, bytes),
+        Order::Set(register, content) => Call::SetRegister(register.number, content),
+        Order::Keys(bytes) => Call::Receive(byte_at(bytes, i)),
+        Order::Pokes(at, bytes) | Order::Code(at, bytes) => poke(at, i, bytes),
         Order::Steps(n) => step(n, i),
-        Order::Run(n) => Call::Run(n),
-        Order::RunOn => Call::Run(65535),
-        _ => Call::Run(0),
-    }
-}
-
-// The bytes that an order's calls are given.
-fn given<'a>(order: Order, room: &'a [u8]) -> &'a [u8] {
-    match order {
-        Order::Image(at, n) => images::bytes(room, n),
-        _ => room,
-    }
-}
-
-fn is_step(call: Call) -> bool {
-    match call {
-        Call::Step => true,
-        _ => false,
+        Order::Run(n) => Call::Run(n.unwrap_or(65535)),
+        Order::RunBack(_) | Order::Origin(_) => Call::Run(0),
     }
 }
 
 // The calls made one after the other, until one is refused or the machine is halted.
-pub fn carried(
-    rt: &impl Print,
-    order: Order,
-    room: &[u8],
-    state: &mut [u16; 32],
-    ram: &mut [u8],
-    journal: &mut [u16],
-) -> Outcome {
-    let bytes = given(order, room);
-    let n = count(order);
-    let mut o = outcomes::none();
-    let mut i: usize = 0;
-    while i < n {
-        let c = call(order, i, bytes);
-        let result = mb50::cross(c, state, ram, journal);
-        o = outcomes::with(o, is_step(c), result);
-        if outcomes::is_last(o) {
-            return o;
+pub fn carried(rt: &impl Print, order: Order, lent: &mut Lent) -> Outcome {
+    let mut outcome = Outcome::default();
+    for i in 0..count(order) {
+        let c = call(order, i);
+        let result = lent.cross(c);
+        outcome = outcome.with(matches!(c, Call::Step), result);
+        if outcome.is_last() {
+            return outcome;
         }
-        deeds::progress(rt, order, o.steps, state, ram);
-        i += 1;
+        deeds::progress(rt, order, outcome.steps, lent.view());
     }
-    o
+    outcome
 }

@@ -1,8 +1,6 @@
 // Copies of the memory, and marks at its bytes.
 ghost use Rattle.std.specs.Prelude.{◌≡◌, length};
 
-use console::rows;
-
 // Room for all RAM that there can be, with no mark at any byte. Its `ensures` gives only the length, so that no proof writes the zeros out.
 pub fn room() -> [u8; 65504]
     ensures { 65504 ≡ length result }
@@ -15,6 +13,7 @@ pub fn of(ram: &[u8]) -> [u8; 65504]
     ensures { 65504 ≡ length result }
 {
     let mut r = room();
-    rows::put_all(&mut r, 0, ram);
+    let n = ram.len().min(65504);
+    r[..n].copy_from_slice(&ram[..n]);
     r
 }

@@ -11,13 +11,12 @@ use bus::state::Stretch;
 use calls::state;
 use calls::state::Machine;
 use console::files::hold_standard;
-use console::words;
+use console::rows::Row;
 use evening::arguments::Settings;
 use evening::{arguments, files, firmware, given};
-use manifests::Number;
 use night::lines::{Cause, Told};
 use night::totals::Totals;
-use night::{lines, notes, progress, totals};
+use night::{lines, progress, totals};
 use pens::Report;
 use watching::Ending;
 
@@ -68,11 +67,20 @@ fn refused_room() -> [u8; 32768]
     [0u8; 32768]
 }
 
-// The machine after all pens, and what they came to.
-#[derive(Clone, Copy)]
-struct Listed {
-    machine: Machine,
+// What a night has come to, with the rooms for a line and for the refused pens.
+#[derive(Drop)]
+struct Night<'a, 'b> {
     totals: Totals,
+    row: &'a mut [u8],
+    refused: Row<'b>,
+}
+
+fn opened<'a, 'b>(totals: Totals, row: &'a mut [u8], refused: &'b mut [u8]) -> Night<'a, 'b> {
+    Night {
+        totals,
+        row,
+        refused: Row::new(refused),
+    }
 }
 
 fn cause(e: Ending) -> Cause {
@@ -83,70 +91,46 @@ fn cause(e: Ending) -> Cause {
     }
 }
 
-fn is_number(line: &[u8]) -> bool {
-    match manifests::read_number(line) {
-        Number::Is(_) => true,
-        Number::Not => false,
-    }
-}
-
-fn tell_accepted(
-    rt: &HostRuntime,
-    t: Totals,
-    line: &[u8],
-    name: &[u8],
-    r: Report,
-    row: &mut [u8],
-) -> Totals {
-    let ending = r.ending;
+fn tell_accepted(rt: &HostRuntime, night: &mut Night, line: &[u8], name: &[u8], r: Report) {
     let told = Told {
         r0: r.r0,
-        cause: cause(ending),
+        cause: cause(r.ending),
         steps: r.steps,
         bus: r.bus,
     };
-    let n = lines::accepted(row, line, told, name);
-    let u = totals::with_accepted(t, cause(ending));
-    progress::written(rt, u, words::front(row, n))
+    let t = totals::with_accepted(night.totals, told.cause);
+    let written = lines::accepted(&mut *night.row, line, told, name);
+    night.totals = progress::written(rt, t, written);
 }
 
-fn tell_refused(
-    rt: &HostRuntime,
-    t: Totals,
-    pen: &[u8],
-    is_pen: bool,
-    number: u8,
-    row: &mut [u8],
-    refused: &mut [u8],
-) -> Totals {
-    let n = lines::refused(row, pen, number);
-    let u = totals::with_refused(t, pen, is_pen, number, refused);
-    progress::written(rt, u, words::front(row, n))
+// A line that is no number has a question mark for its pen.
+fn tell_refused(rt: &HostRuntime, night: &mut Night, line: &[u8], number: u8) {
+    let is_pen = manifests::read_number(line).is_some();
+    let pen: &[u8] = if is_pen { line } else { b"?" };
+    let t = totals::with_refused(night.totals, pen, is_pen, number, &mut night.refused);
+    let written = lines::refused(&mut *night.row, pen, number);
+    night.totals = progress::written(rt, t, written);
 }
 
 // A pen's line, written and counted.
 fn tell<'a>(
     rt: &HostRuntime,
-    t: Totals,
+    night: &mut Night,
     line: &[u8],
     today: &'a [u8],
     last_good: &'a [u8],
     r: Report,
-    row: &mut [u8],
-    refused: &mut [u8],
-) -> Totals {
+) {
     if r.number == 0 {
-        let held = r.held;
-        let name = manifests::lookup(today, last_good, held);
-        return progress::shown(rt, tell_accepted(rt, t, line, name, r, row));
+        let name = manifests::lookup(today, last_good, r.held);
+        tell_accepted(rt, night, line, name, r);
+    } else {
+        tell_refused(rt, night, line, r.number);
     }
-    if is_number(line) {
-        return progress::shown(rt, tell_refused(rt, t, line, true, r.number, row, refused));
-    }
-    progress::shown(rt, tell_refused(rt, t, b"?", false, r.number, row, refused))
+    night.totals = progress::shown(rt, night.totals);
 }
 
-// The pens of a list, one after the other.
+// The pens of a list, one after the other. The loop goes on at the end that `line_end` answers, of which `after_pens` speaks: a place, and no count.
 fn list<'a>(
     rt: &HostRuntime,
     m: Machine,
@@ -158,16 +142,13 @@ fn list<'a>(
     last_good: &'a [u8],
     last_heads: &[usize],
     setup: &[u16],
-    t: Totals,
-    row: &mut [u8],
-    refused: &mut [u8],
-) -> Listed
+    night: &mut Night,
+) -> Machine
     requires { HeadsOf today.now today_heads.now × HeadsOf last_good.now last_heads.now }
-    ensures { world_of result.machine ram.new journal.new
+    ensures { world_of result ram.new journal.new
         ≡ after_pens (lines_of lines.now) today.now last_good.now setup.now (world_of m ram.old journal.old) }
 {
     let mut machine = m;
-    let mut totals = t;
     let mut at: usize = 0;
     while at < lines.len() {
         let end = manifests::line_end(lines, at);
@@ -183,12 +164,11 @@ fn list<'a>(
             last_heads,
             setup,
         );
-        totals = tell(rt, totals, line, today, last_good, r, row, refused);
-        let after = r.machine;
-        machine = after;
+        tell(rt, night, line, today, last_good, r);
+        machine = r.machine;
         at = end + 1;
     }
-    Listed { machine, totals }
+    machine
 }
 
 // The list, where nothing refuses all of it, and what it came to.
@@ -199,14 +179,12 @@ fn run<'a>(
     lines: &[u8],
     today: &'a [u8],
     last_good: &'a [u8],
-    setup: &[u16],
-    first: u16,
-    last: u16,
+    s: Settings,
 ) {
+    let (first, last) = s.board.stretch.unwrap_or((1, 0));
     let m = state::start(Stretch { first, last });
-    let number = pens::refusal(m, ram, journal, setup);
-    if number != 0 {
-        given::refused(rt, number, setup);
+    if let Err(why) = pens::refusal(m, ram, journal, s.setup) {
+        given::refused(rt, u8::from(why), s.setup);
         return;
     }
     let mut today_heads = heads_room();
@@ -215,7 +193,8 @@ fn run<'a>(
     manifests::index(last_good, &mut last_heads);
     let mut row = row_room();
     let mut refused = refused_room();
-    let l = list(
+    let mut night = opened(progress::begin(rt, lines), &mut row, &mut refused);
+    list(
         rt,
         m,
         ram,
@@ -225,84 +204,44 @@ fn run<'a>(
         &today_heads,
         last_good,
         &last_heads,
-        setup,
-        progress::begin(rt, lines),
-        &mut row,
-        &mut refused,
+        s.setup,
+        &mut night,
     );
-    told(rt, l.totals, &refused);
+    tell_all(rt, &night);
 }
 
 // What the list came to, at its end.
-fn told(rt: &HostRuntime, t: Totals, refused: &[u8]) {
-    progress::clear(rt, t);
-    totals::tell_all(rt, t, refused);
+fn tell_all(rt: &HostRuntime, night: &Night) {
+    progress::clear(rt, night.totals);
+    totals::tell_all(rt, night.totals, night.refused.bytes());
 }
 
-// The lists are read, each whole, before anything runs.
-fn read(
-    rt: &HostRuntime,
-    s: Settings,
-    is_loaded: bool,
-    setup: &[u16],
-    ram: &mut [u8],
-    journal: &mut [u16],
-) {
-    let mut lines = list_room();
-    let a = files::read_lines(rt, s.pens, &mut lines);
-    let mut today = list_room();
-    let b = files::read_lines(rt, s.today, &mut today);
-    let mut last_good = list_room();
-    let c = files::read_lines(rt, s.last_good, &mut last_good);
-    if is_loaded & a.is_good & b.is_good & c.is_good {
-        run(
-            rt,
-            ram,
-            journal,
-            words::front(&lines, a.length),
-            words::front(&today, b.length),
-            words::front(&last_good, c.length),
-            setup,
-            s.first,
-            s.last,
-        );
+// The firmware and the lists are read, each whole, before anything runs; what is wrong with each is said.
+fn begin(rt: &HostRuntime, s: Settings, ram: &mut [u8], journal: &mut [u16]) {
+    let loaded = firmware::load(rt, s.paths.firmware, ram);
+    let mut room = list_room();
+    let lines = files::read_lines(rt, s.paths.pens, &mut room);
+    let mut today_room = list_room();
+    let today = files::read_lines(rt, s.paths.today, &mut today_room);
+    let mut last_good_room = list_room();
+    let last_good = files::read_lines(rt, s.paths.last_good, &mut last_good_room);
+    if let (Ok(()), Ok(lines), Ok(today), Ok(last_good)) = (loaded, lines, today, last_good) {
+        run(rt, ram, journal, lines, today, last_good, s);
     }
-}
-
-fn begin(rt: &HostRuntime, s: Settings, setup: &[u16], ram: &mut [u8], journal: &mut [u16]) {
-    let is_loaded = firmware::load(rt, s.firmware, ram);
-    read(rt, s, is_loaded, setup, ram, journal);
 }
 
 fn main(rt: HostRuntime) {
     hold_standard(&rt);
     let mut setup = setup_room();
-    let s = arguments::read(&rt, &mut setup);
-    let given = s.setup;
-    let bytes = s.ram;
-    let words = s.words;
-    if !s.is_good {
+    let Some(s) = arguments::read(&rt, &mut setup) else {
         return;
-    }
-    if 131 < given {
-        return;
-    }
-    if 65504 < bytes {
-        return;
-    }
-    if 32768 < words {
-        return;
-    }
+    };
     if !files::is_output_open(&rt) {
         return;
     }
+    let bytes = s.board.ram.min(65504);
+    let words = s.board.words.min(32768);
     let mut ram = ram_room();
     let mut journal = journal_room();
-    begin(
-        &rt,
-        s,
-        &setup[0..given],
-        &mut ram[0..bytes],
-        &mut journal[0..words],
-    );
+    begin(&rt, s, &mut ram[..bytes], &mut journal[..words]);
 }

@@ -1,18 +1,20 @@
 // rexecute: steps back until pc is at a break, or the step taken back had stored to a watch.
-use crate::{Deed, dropped, newest, unstopped};
-use entries::{Entry, Met};
+use crate::lent::Lent;
+use crate::{Deed, dropped, newest, stop_at, unstopped};
+use entries::Met;
 use machine::Call;
-use panel::{parts, status};
+use panel::parts;
 use stops::list;
-use stops::list::Stops;
+use stops::list::{Kind, Stops};
 use telling::causes::Stop;
-use telling::{inputs, outcomes};
+use telling::inputs;
+use telling::outcomes::Outcome;
 
 // One step back: the call's result, and the entry that it stops at.
 #[derive(Clone, Copy)]
 struct Turn {
     result: u64,
-    stop: Stop,
+    stop: Option<Stop>,
 }
 
 // A poke is no step. It stores one byte and changes no state; an instruction that leaves pc where it was stores two.
@@ -20,87 +22,53 @@ fn is_poke(x: Met, before: &[u16; 32], after: &[u16; 32]) -> bool {
     (x.count == 1) & inputs::same(before, after)
 }
 
-fn stop_at(e: Entry, old: u8) -> Stop {
-    Stop {
-        kind: e.kind,
-        address: e.address,
-        hits: 0,
-        old,
-        new: 0,
-    }
+// The break at pc, if there is one.
+fn at_break(s: &Stops, before: &[u16; 32]) -> Option<Stop> {
+    let met = list::met(u16::from(Kind::Break), 1, parts::pc(before));
+    stop_at(list::first(*s, met)?, None, 0)
 }
 
-// The break at pc, if there is one.
-fn at_break(s: Stops, before: &[u16; 32]) -> Stop {
-    let e = list::first(s, list::met(list::BREAK, 1, parts::pc(before)));
-    stop_at(e, 0)
+// The watch that the stores of the newest record meet, if there is one, with the byte there, which is about to be taken back.
+fn at_watch(s: &Stops, x: Met, lent: &Lent) -> Option<Stop> {
+    let view = lent.view();
+    let e = list::first(*s, dropped::kept(x, view))?;
+    stop_at(e, None, view.byte_at(e.address))
 }
 
 // One record taken back. Where both are met the watch is named, as in a run forwards.
-fn taken_back(s: Stops, state: &mut [u16; 32], ram: &mut [u8], journal: &mut [u16]) -> Turn {
-    let after = *state;
-    let x = newest::last(&after, journal);
-    let e = list::first(s, dropped::kept(x, &after, ram.len()));
-    let old = status::byte_at(&after, ram, e.address);
-    let result = mb50::cross(Call::Back, state, ram, journal);
-    if (e.kind == list::WATCH) & !is_poke(x, state, &after) {
-        return Turn {
-            result,
-            stop: stop_at(e, old),
-        };
-    }
-    Turn {
-        result,
-        stop: at_break(s, state),
-    }
+fn taken_back(s: &Stops, lent: &mut Lent) -> Turn {
+    let after = *lent.state;
+    let x = newest::last(&after, &*lent.journal);
+    let watch = at_watch(s, x, lent);
+    let result = lent.cross(Call::Back);
+    let before = *lent.state;
+    let stop = if watch.is_some() & !is_poke(x, &before, &after) {
+        watch
+    } else {
+        at_break(s, &before)
+    };
+    Turn { result, stop }
 }
 
-// What was taken back, with one record more.
-fn with(before: Deed, t: Turn) -> Deed {
-    let o = outcomes::with(before.outcome, false, t.result);
-    let stop = t.stop;
-    if outcomes::is_last(o) {
-        return unstopped(o, true);
-    }
-    Deed {
-        outcome: o,
-        stop,
-        met: list::met(0, 0, 0),
-        is_over: stop.kind != 0,
-    }
-}
-
-// One record more. The end of those that are held is no refusal, but where there was none to begin with.
-fn one_more(
-    before: Deed,
-    is_first: bool,
-    s: Stops,
-    state: &mut [u16; 32],
-    ram: &mut [u8],
-    journal: &mut [u16],
-) -> Deed {
-    if !is_first & (parts::held(state) == 0) {
-        return unstopped(before.outcome, true);
-    }
-    with(before, taken_back(s, state, ram, journal))
-}
-
-// So many records at most.
-pub fn returned(
-    most: u16,
-    s: Stops,
-    state: &mut [u16; 32],
-    ram: &mut [u8],
-    journal: &mut [u16],
-) -> Deed {
-    let mut d = unstopped(outcomes::none(), false);
-    let mut left = most;
-    while 0 < left {
-        d = one_more(d, left == most, s, state, ram, journal);
-        if d.is_over {
-            return d;
+// So many records at most. The end of those that are held is no refusal, but where there was none to begin with.
+pub fn returned(most: u16, s: &Stops, lent: &mut Lent) -> Deed {
+    let mut outcome = Outcome::default();
+    for n in 0..most {
+        if (n != 0) & (parts::held(&*lent.state) == 0) {
+            return unstopped(outcome);
         }
-        left -= 1;
+        let turn = taken_back(s, lent);
+        outcome = outcome.with(false, turn.result);
+        if outcome.is_last() {
+            return unstopped(outcome);
+        }
+        if turn.stop.is_some() {
+            return Deed {
+                outcome,
+                stop: turn.stop,
+                met: None,
+            };
+        }
     }
-    d
+    unstopped(outcome)
 }

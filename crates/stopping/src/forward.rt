@@ -1,95 +1,66 @@
 // execute by the list.
-use crate::{Deed, unstopped};
+use crate::lent::Lent;
+use crate::{Deed, stop_at, unstopped};
 use entries::Met;
 use orders::Order;
 use panel::parts;
 use stops::list;
-use stops::list::Stops;
-use telling::causes::Stop;
+use stops::list::{Kind, Stops};
+use telling::deeds;
 use telling::outcomes::Outcome;
-use telling::{deeds, outcomes};
 
 // A stop by the first entry that it meets, with the hits that it then has.
-fn stopped(outcome: Outcome, s: Stops, met: Met) -> Deed {
-    let e = list::first(list::raised(s, met), met);
-    let stop = Stop {
-        kind: e.kind,
-        address: e.address,
-        hits: e.hits,
-        old: 0,
-        new: 0,
+fn stopped(outcome: Outcome, s: &Stops, met: Met) -> Deed {
+    let stop = match list::first(list::raised(*s, met), met) {
+        Some(e) => stop_at(e, Some(e.hits), 0),
+        None => None,
     };
     Deed {
         outcome,
         stop,
-        met,
-        is_over: true,
+        met: Some(met),
     }
 }
 
 // The last run: a step that halted the machine and stored to a watch is told as halted, and counts as a hit.
-fn ended(o: Outcome, s: Stops, x: Met) -> Deed {
-    if o.is_halted {
-        let mut d = unstopped(o, true);
-        d.met = x;
-        return d;
+fn ended(outcome: Outcome, s: &Stops, met: Met) -> Deed {
+    if outcome.is_halted {
+        return Deed {
+            outcome,
+            stop: None,
+            met: Some(met),
+        };
     }
-    stopped(o, s, x)
+    stopped(outcome, s, met)
 }
 
-fn at(state: &[u16; 32]) -> Met {
-    list::met(list::BREAK, 1, parts::pc(state))
+// What a break at pc meets.
+fn here(state: &[u16; 32]) -> Met {
+    list::met(u16::from(Kind::Break), 1, parts::pc(state))
 }
 
-fn is_at_break(s: Stops, state: &[u16; 32]) -> bool {
-    let e = list::first(s, at(state));
-    e.kind == list::BREAK
-}
-
-// One run more. To the hand at the desk all are one run, of which the first step alone passes a break: so only the first run may start at one.
-fn one_more(
-    rt: &impl Print,
-    before: Deed,
-    is_first: bool,
-    budget: u16,
-    order: Order,
-    s: Stops,
-    state: &mut [u16; 32],
-    ram: &mut [u8],
-    journal: &mut [u16],
-) -> Deed {
-    if !is_first & is_at_break(s, state) {
-        return stopped(before.outcome, s, at(state));
-    }
-    let c = crossing::cross_points(state, ram, journal, s.points, budget);
-    let x = c.met;
-    let o = outcomes::with(before.outcome, false, c.result);
-    if outcomes::is_last(o) | (0 < x.count) {
-        return ended(o, s, x);
-    }
-    deeds::progress(rt, order, o.steps, state, ram);
-    unstopped(o, false)
-}
-
-// So many runs of so many steps at most, one after the other.
+// So many runs of so many steps at most, one after the other. To the hand at the desk all are one run, of which the first step alone passes a break: so only the
+// first run may start at one.
 pub fn executed(
     rt: &impl Print,
     runs: usize,
     budget: u16,
     order: Order,
-    s: Stops,
-    state: &mut [u16; 32],
-    ram: &mut [u8],
-    journal: &mut [u16],
+    s: &Stops,
+    lent: &mut Lent,
 ) -> Deed {
-    let mut d = unstopped(outcomes::none(), false);
-    let mut left = runs;
-    while 0 < left {
-        d = one_more(rt, d, left == runs, budget, order, s, state, ram, journal);
-        if d.is_over {
-            return d;
+    let mut outcome = Outcome::default();
+    for n in 0..runs {
+        let met = here(&*lent.state);
+        if (n != 0) & list::first(*s, met).is_some() {
+            return stopped(outcome, s, met);
         }
-        left -= 1;
+        let run = lent.cross_points(entries::gather(s.list()), budget);
+        outcome = outcome.with(false, run.result);
+        if outcome.is_last() | (0 < run.met.count) {
+            return ended(outcome, s, run.met);
+        }
+        deeds::progress(rt, order, outcome.steps, lent.view());
     }
-    d
+    unstopped(outcome)
 }

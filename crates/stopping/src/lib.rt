@@ -4,72 +4,63 @@
 mod backward;
 pub mod dropped;
 mod forward;
+pub mod lent;
 mod newest;
 
-use entries::Met;
+use entries::{Entry, Met};
+use lent::Lent;
 use orders::{Order, RUNS};
-use panel::status;
-use stops::list;
+use panel::view::View;
 use stops::list::Stops;
-use telling::causes;
-use telling::causes::Stop;
+use telling::causes::{Kind, Stop};
 use telling::outcomes::Outcome;
 
-// What calls leave, the entry that stopped them, what the stop meets (the hits that rise by it), and whether no call is to follow.
+// What calls leave, the entry that stopped them, and what the stop meets, by which hits rise.
 #[derive(Clone, Copy)]
 pub struct Deed {
     pub outcome: Outcome,
-    pub stop: Stop,
-    pub met: Met,
-    pub is_over: bool,
+    pub stop: Option<Stop>,
+    pub met: Option<Met>,
 }
 
 // Calls that no entry stopped.
-pub fn unstopped(outcome: Outcome, is_over: bool) -> Deed {
+pub fn unstopped(outcome: Outcome) -> Deed {
     Deed {
         outcome,
-        stop: causes::none(),
-        met: list::met(0, 0, 0),
-        is_over,
+        stop: None,
+        met: None,
     }
 }
 
-// Whether an order goes by the list. Without entries execute is a run as any other.
-pub fn is_listed(order: Order, s: Stops) -> bool {
-    let p = s.points;
-    match order {
-        Order::Run(n) => 0 < p.count,
-        Order::RunOn => 0 < p.count,
-        Order::RunBack(n) => true,
-        Order::RunBackOn => true,
-        _ => false,
-    }
+// The stop at an entry, with its hits where they count, and the byte there before.
+fn stop_at(e: Entry, hits: Option<u16>, old: u8) -> Option<Stop> {
+    Some(Stop {
+        kind: Kind::numbered(e.kind)?,
+        address: e.address,
+        hits,
+        old,
+        new: 0,
+    })
 }
 
-// The calls of an order that goes by the list.
-pub fn made(
-    rt: &impl Print,
-    order: Order,
-    s: Stops,
-    state: &mut [u16; 32],
-    ram: &mut [u8],
-    journal: &mut [u16],
-) -> Deed {
+// The calls of an order that goes by the list; None of another. Without entries execute is a run as any other.
+pub fn made(rt: &impl Print, order: Order, s: &Stops, lent: &mut Lent) -> Option<Deed> {
     match order {
-        Order::Run(n) => forward::executed(rt, 1, n, order, s, state, ram, journal),
-        Order::RunOn => forward::executed(rt, RUNS, 65535, order, s, state, ram, journal),
-        Order::RunBack(n) => backward::returned(n, s, state, ram, journal),
-        _ => backward::returned(65535, s, state, ram, journal),
+        Order::Run(_) if s.list().is_empty() => None,
+        Order::Run(Some(n)) => Some(forward::executed(rt, 1, n, order, s, lent)),
+        Order::Run(None) => Some(forward::executed(rt, RUNS, 65535, order, s, lent)),
+        Order::RunBack(most) => Some(backward::returned(most.unwrap_or(65535), s, lent)),
+        _ => None,
     }
 }
 
 // The stop with the byte at its address before and after. rexecute has read the one before; in a run it is that from before the run, since the first store to a
 // watched address stops it.
-pub fn seen(d: Deed, before: &[u16; 32], old: &[u8], state: &[u16; 32], ram: &[u8]) -> Stop {
-    let mut s = d.stop;
-    s.new = status::byte_at(state, ram, s.address);
-    if 0 < s.hits {
-        s.old = status::byte_at(before, old, s.address);
+pub fn seen(stop: Option<Stop>, before: View, after: View) -> Option<Stop> {
+    let mut s = stop?;
+    s.new = after.byte_at(s.address);
+    if s.hits.is_some() {
+        s.old = before.byte_at(s.address);
     }
-    s
+    Some(s)
 }

@@ -6,8 +6,7 @@ use Rattle.overnight.proofs.list.Given as goal
 
 abbrev pub invariant-loop-at : goal.invariant-loop-at
 invariant-loop-at l =
-    ((length l.ram ≡ length l.initial.ram) × ((length l.journal ≡ length l.initial.journal)
-    × ((length l.row ≡ length l.initial.row) × (length l.refused ≡ length l.initial.refused))))
+    ((length l.ram ≡ length l.initial.ram) × (length l.journal ≡ length l.initial.journal))
     × (after_pens (lines_of (drop l.at l.lines)) l.today l.last_good l.setup (world_of l.machine l.ram l.journal)
     ≡ after_pens (lines_of l.lines) l.today l.last_good l.setup (world_of l.initial.machine l.initial.ram l.initial.journal))
 
