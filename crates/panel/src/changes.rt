@@ -30,8 +30,8 @@ fn one_part(rt: &impl Print, part: Part, old: u16, new: u16) {
 fn state(rt: &impl Print, before: View, after: View) -> bool {
     let mut any = false;
     for &part in &parts::ALL {
-        let old = before.part(part);
-        let new = after.part(part);
+        let old = part.value(before.state);
+        let new = part.value(after.state);
         if old != new {
             one_part(rt, part, old, new);
             any = true;

@@ -1,4 +1,6 @@
 // The state by its parts, as a person names them. It is held as the 32 words that the calls over the boundary work on.
+ghost use Rattle.std.specs.Prelude.{◌≡◌, slice_index};
+
 use bus::state::{Devices, Stretch};
 use names::register;
 use names::register::{Csr, Reg};
@@ -16,7 +18,7 @@ pub enum Part {
     Halted,
 }
 
-// All parts, in the order in which they are shown.
+// All parts, in the order in which they are shown: sixteen registers, sixteen status registers, the devices and the halted mark.
 pub static ALL: [Part; 38] = [
     Part::Register(Reg { number: 0 }),
     Part::Register(Reg { number: 1 }),
@@ -57,19 +59,6 @@ pub static ALL: [Part; 38] = [
     Part::T,
     Part::Halted,
 ];
-
-pub fn registers() -> &'static [Part] {
-    &ALL[..16]
-}
-
-pub fn status_registers() -> &'static [Part] {
-    &ALL[16..32]
-}
-
-// The devices and the halted mark.
-pub fn board() -> &'static [Part] {
-    &ALL[32..]
-}
 
 static REGISTERS: [&[u8]; 16] = [
     b"r0", b"r1", b"r2", b"r3", b"r4", b"r5", b"r6", b"r7", b"r8", b"r9", b"r10", b"sp", b"ca",
@@ -135,16 +124,22 @@ impl Part {
     }
 }
 
-pub fn pc(state: &[u16; 32]) -> u16 {
+pub fn pc(state: &[u16; 32]) -> u16
+    ensures { result ≡ slice_index state.now 15 }
+{
     state[register::PC]
 }
 
-pub fn f(state: &[u16; 32]) -> u16 {
+pub fn f(state: &[u16; 32]) -> u16
+    ensures { result ≡ slice_index state.now 14 }
+{
     state[register::F]
 }
 
 // How many records are held.
-pub fn held(state: &[u16; 32]) -> u16 {
+pub fn held(state: &[u16; 32]) -> u16
+    ensures { result ≡ slice_index state.now 26 }
+{
     state[26]
 }
 

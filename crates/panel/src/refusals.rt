@@ -1,4 +1,5 @@
 // What the numbered refusals mean, in words.
+ghost use Rattle.std.specs.Prelude.{◌≡◌, ◌<◌, None, IsSomeAnd};
 
 // The refusals 1 to 14, in the order of their numbers; and any other, by its number.
 #[derive(Clone, Copy, PartialEq, Eq)]
@@ -21,8 +22,13 @@ pub enum Refusal {
 }
 
 impl Refusal {
+    ghost use Rattle.panel.specs.Refusals.{number_of};
+
     // The refusal of a number; 0 is none.
-    pub fn numbered(n: u8) -> Option<Refusal> {
+    pub fn numbered(n: u8) -> Option<Refusal>
+        ensures none { n ≡ 0 → result ≡ None }
+        ensures some { 0 < n → IsSomeAnd result (λ why. number_of why ≡ n) }
+    {
         match n {
             0 => None,
             1 => Some(Refusal::RamTooLong),

@@ -22,7 +22,7 @@ fn status_register(word: &[u8]) -> Option<Csr> {
 }
 
 fn value(rt: &impl Print, view: View, part: Part) {
-    report::hex(rt, view.part(part) as u64, part.width());
+    report::hex(rt, part.value(view.state) as u64, part.width());
 }
 
 // A part's name, blanks up to a width, and what it holds.
@@ -54,7 +54,7 @@ fn table(rt: &impl Print, view: View, parts: &[Part], width: usize) {
 
 // The devices and the halted mark.
 fn board(rt: &impl Print, view: View) {
-    for &part in parts::board() {
+    for &part in &parts::ALL[32..] {
         report::text(rt, b"  ");
         report::text(rt, part.name());
         report::space(rt);
@@ -69,7 +69,7 @@ pub fn show_register(rt: &impl Print, view: View, register: Reg) {
 
 // All registers, and what the debugger shows beside them: the flags, the devices, the halted mark.
 pub fn show_registers(rt: &impl Print, view: View) {
-    table(rt, view, parts::registers(), 4);
+    table(rt, view, &parts::ALL[..16], 4);
     report::text(rt, b"flags ");
     status::flags(rt, view.f());
     board(rt, view);
@@ -78,7 +78,7 @@ pub fn show_registers(rt: &impl Print, view: View) {
 // csr [NAME]
 pub fn csr(rt: &impl Print, view: View, line: &[u8]) {
     let Some((word, rest)) = words::next(line) else {
-        table(rt, view, parts::status_registers(), 6);
+        table(rt, view, &parts::ALL[16..32], 6);
         return;
     };
     let Some(csr) = status_register(word) else {

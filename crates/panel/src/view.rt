@@ -1,6 +1,7 @@
 // The machine as it is looked at: the 32 words of its state, and its RAM.
+ghost use Rattle.std.specs.Prelude.{◌≡◌, slice_index};
+
 use crate::parts;
-use crate::parts::Part;
 use bus::address;
 
 #[derive(Clone, Copy)]
@@ -10,22 +11,23 @@ pub struct View<'a> {
 }
 
 impl View<'_> {
-    // What a part of the state holds.
-    pub fn part(self, part: Part) -> u16 {
-        part.value(self.state)
-    }
-
-    pub fn pc(self) -> u16 {
+    pub fn pc(self) -> u16
+        ensures { result ≡ slice_index self.entry.state.now 15 }
+    {
         parts::pc(self.state)
     }
 
     // Register f, which holds the flags.
-    pub fn f(self) -> u16 {
+    pub fn f(self) -> u16
+        ensures { result ≡ slice_index self.entry.state.now 14 }
+    {
         parts::f(self.state)
     }
 
     // How many records are held.
-    pub fn held(self) -> u16 {
+    pub fn held(self) -> u16
+        ensures { result ≡ slice_index self.entry.state.now 26 }
+    {
         parts::held(self.state)
     }
 
