@@ -15,9 +15,8 @@ use Rattle.calls.specs.Inputs.{Input}
 use Rattle.calls.specs.declared.state.Run.{Run}
 use Rattle.calls.specs.declared.state.Stop.{Stop}
 use Rattle.calls.specs.declared.state.Stop.TheVariants.{Halted, Budget}
-use Rattle.calls.specs.Calls.{W, cause_is, Keeps, answer_of, world_of, number_of, said_by, replied}
+use Rattle.calls.specs.Calls.{W, cause_is, Keeps, answer_of, world_of, said_by, replied}
 use Rattle.calls.specs.declared.state.Machine.{Machine}
-use Rattle.calls.specs.declared.state.Refusal.{Refusal}
 use Rattle.calls.specs.declared.state.Answer.{Answer}
 use Rattle.calls.specs.declared.state.Answer.TheVariants.{Accepted, Stepped, Ran, Refused}
 use Rattle.calls.specs.declared.state.Reply.{Reply}
@@ -41,21 +40,6 @@ ends c next held r e = let p = c.board.stretch in ap (λ (y : List ℕ). set (se
 twice : (x : Bool) → not (not x) ≡ x
 twice true = refl
 twice false = refl
-
--- no refusal has the number 0
-refuses : (why : Refusal) → true ≡ not (eqb (number_of why) 0)
-refuses Refusal.RamTooLong = refl
-refuses Refusal.BadJournal = refl
-refuses Refusal.BadState = refl
-refuses Refusal.Halted = refl
-refuses Refusal.NotReady = refl
-refuses Refusal.NoRegister = refl
-refuses Refusal.NotRam = refl
-refuses Refusal.NoRecord = refl
-refuses Refusal.BadRecord = refl
-
-pub refused : (w : W) (a : Answer) (why : Refusal) → a ≡ Refused why → true ≡ not (eqb (said_by a w).number 0)
-refused w a why e = rw e (refuses why)
 
 -- a run's steps and cause
 told : (s b : ℕ) (t : Stop) (w : W) → packed 0 s b (cause_number (cause_is t)) ≡ result_of (answers 0 s b (cause_is t) w)

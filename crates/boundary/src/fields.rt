@@ -4,10 +4,9 @@ ghost use Rattle.calls.specs.Calls.{W, cause_is, said_by};
 ghost use Rattle.text.specs.Answer.{listed_as, assembled_as};
 ghost use Rattle.boundary.specs.Boundary.{packed, cause_number, result_of, listed as listed_by, assembled as assembled_by};
 
-use calls::state;
 use calls::state::{Answer, Run, Stop};
-use text::assemble::Assembled;
-use text::list::Listed;
+use text::assemble::NoWord;
+use text::list::NoText;
 
 pub fn pack(number: u8, steps: u16, bus: u32, cause: u8) -> u64
     ensures { result ≡ packed number steps bus cause }
@@ -41,19 +40,14 @@ pub fn said(answer: Answer) -> u64
         Answer::Accepted => pack(0, 0, 0, 0),
         Answer::Stepped(bus) => pack(0, 0, bus, 0),
         Answer::Ran(run) => ran(run),
-        Answer::Refused(why) => pack(state::number(why), 0, 0, 0),
+        Answer::Refused(why) => pack(u8::from(why), 0, 0, 0),
     }
 }
 
 pub fn is_refusal(answer: Answer) -> bool
     ensures { (w : W) → result ≡ not (eqb (said_by answer w).number 0) }
 {
-    match answer {
-        Answer::Accepted => false,
-        Answer::Stepped(bus) => false,
-        Answer::Ran(run) => false,
-        Answer::Refused(why) => true,
-    }
+    matches!(answer, Answer::Refused(_))
 }
 
 // A text's length or a word, above the number.
@@ -63,23 +57,23 @@ fn text(number: u8, value: u16) -> u64
     pack(number, value, 0, 0)
 }
 
-pub fn listed(answer: Listed) -> u64
+pub fn listed(answer: Result<usize, NoText>) -> u64
     ensures { result ≡ listed_by (listed_as answer) }
 {
     match answer {
-        Listed::Text(length) => text(0, (length % 65536) as u16),
-        Listed::Reason2 => text(10, 0),
-        Listed::NoRoom => text(11, 0),
+        Ok(length) => text(0, (length % 65536) as u16),
+        Err(NoText::Reason2) => text(10, 0),
+        Err(NoText::NoRoom) => text(11, 0),
     }
 }
 
-pub fn assembled(answer: Assembled) -> u64
+pub fn assembled(answer: Result<u16, NoWord>) -> u64
     ensures { result ≡ assembled_by (assembled_as answer) }
 {
     match answer {
-        Assembled::Word(word) => text(0, word),
-        Assembled::BadLine => text(12, 0),
-        Assembled::BadMnemonic => text(13, 0),
-        Assembled::BadOperand => text(14, 0),
+        Ok(word) => text(0, word),
+        Err(NoWord::BadLine) => text(12, 0),
+        Err(NoWord::BadMnemonic) => text(13, 0),
+        Err(NoWord::BadOperand) => text(14, 0),
     }
 }

@@ -11,4 +11,4 @@ pub returns-in-Ran : goal.returns-in-Ran
 returns-in-Ran c w = ran _ w _ _ c.in-Ran.is c.ran.ensures
 
 pub returns-in-Refused : goal.returns-in-Refused
-returns-in-Refused c w = simp (c.pack-in-Refused.ensures, c.number.ensures, c.in-Refused.is)
+returns-in-Refused c w = simp (c.pack-in-Refused.ensures, c.from.ensures, c.in-Refused.is)

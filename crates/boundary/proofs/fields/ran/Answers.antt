@@ -1,4 +1,0 @@
-use Rattle.boundary.proofs.fields.ran.Goals as goal
-
-pub returns : goal.returns
-returns c = simp (c.pack.ensures, c.cause.ensures)
