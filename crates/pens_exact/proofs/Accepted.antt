@@ -26,15 +26,15 @@ use Rattle.watching.specs.declared.Ending.{Ending}
 use Rattle.watching.specs.declared.Ending.TheVariants.{Refused, Budget, Halted, Watch, Break}
 use Rattle.watched.specs.Answer.{Watched, told, or_else, list_check, unless_refused, watched_of}
 use Rattle.utf8.specs.Latin.{all_latin, judged_of, latin_of}
-use Rattle.utf8.specs.declared.Judged.{Judged}
-use Rattle.utf8.specs.declared.Judged.TheVariants.{Fine, NotUtf8, NotLatin}
+use Rattle.std.specs.Prelude.{Option, Result, Ok, Err}
+use Rattle.utf8.specs.declared.Unfit.{Unfit}
 use Rattle.utf8.proofs.Reading.{fine-latin, fine-length, latin-head}
 use Rattle.manifests.specs.Manifests.{held_of}
 use Rattle.manifests.specs.declared.Held.{Held}
 use Rattle.pens.specs.Pen.{address_in, stop_in, budget_in, given_in, settings, all_registers, pokings, preparing, made, matching}
 use Rattle.pens.specs.Pen.{Penned, reported, name_check, first_check, pen_check, pen_named, pen_of}
 use Rattle.pens.specs.Pen as Pen
-use Rattle.pens.proofs.Checks.{name-fits, none_of, registers, never, not-utf8-fine, not-latin-fine}
+use Rattle.pens.proofs.Checks.{name-fits, none_of, registers, never}
 use Rattle.exact.specs.Demand3.{Fits}
 use Rattle.exact.proofs.Fixed.{fixed}
 use Rattle.exact.proofs.Played.{at, playing, AptCalls}
@@ -155,7 +155,7 @@ given-within : (setup : List ℕ) → Within 16 setup → (i : ℕ) → word (gi
 given-within setup f i = subst (λ (x : ℕ). x < 2 ^ 16) (sym (get_or-drop 3 setup i 0)) (f.at (3 + i))
 
 -- ---- what a number 0 tells
-module _ (h : Held) (name setup : List ℕ) (w : W) where
+module _ (h : Option Held) (name setup : List ℕ) (w : W) where
   -- what the code would answer, by the number of the checks
   abbrev answer : ℕ → Penned
   answer n = Pen.unless_refused n h w (reported h (matching setup (made (preparing setup name) w)))
@@ -181,22 +181,21 @@ module _ (h : Held) (name setup : List ℕ) (w : W) where
       let a = none_of (first_check setup w) (name_check h (judged_of name) (address_in setup) (length w.box.ram)) z in
       (none_of (check_of w) (cond (all_registers (given_in setup)) 0 6) a.0).0
 
-  fine-go : (n : ℕ) → judged_of name ≡ Fine n → Within 16 setup → pen_check h (judged_of name) setup w ≡ 0
+  fine-go : (n : ℕ) → judged_of name ≡ Ok n → Within 16 setup → pen_check h (judged_of name) setup w ≡ 0
       → AllAcceptable (length w.box.ram) (preparing setup name)
   fine-go n e f z =
       let ram = length w.box.ram in
-      let a = none_of (first_check setup w) (name_check h (Fine n) (address_in setup) ram) (rw e at z) in
+      let a = none_of (first_check setup w) (name_check h (Ok n) (address_in setup) ram) (rw e at z) in
       let b = none_of (check_of w) (cond (all_registers (given_in setup)) 0 6) a.0 in
       let r = name-fits (address_in setup) ram h n a.1 in
       both_go ram (pokings (address_in setup) (latin_of name ++ (0 ∷ []))) (settings (given_in setup))
       (pokings-go ram (address_in setup) (latin_of name) (fine-latin name n e) (omega (arith, r, fine-length name n e)))
       (settings-go ram (given_in setup) (given-within setup f) (registers (all_registers (given_in setup)) b.1))
 
-  judged-go : (j : Judged) → judged_of name ≡ j → Within 16 setup → pen_check h (judged_of name) setup w ≡ 0
+  judged-go : (j : Result ℕ Unfit) → judged_of name ≡ j → Within 16 setup → pen_check h (judged_of name) setup w ≡ 0
       → AllAcceptable (length w.box.ram) (preparing setup name)
-  judged-go (Fine n) e f z = fine-go n e f z
-  judged-go NotUtf8 e f z = absurd (never h name setup w NotUtf8 e not-utf8-fine z)
-  judged-go NotLatin e f z = absurd (never h name setup w NotLatin e not-latin-fine z)
+  judged-go (Ok n) e f z = fine-go n e f z
+  judged-go (Err u) e f z = absurd (never h name setup w u e z)
 
   pub pen-go : (s : Stretch) → stretch_of w ≡ s → Within 16 setup → Typed w.box.cpu w.box.ram → pen_check h (judged_of name) setup w ≡ 0
       → AllGo s (preparing setup name) w

@@ -13,6 +13,7 @@ use Rattle.calls.specs.Calls.{W, check_of, world_of, started, stretch_of, journa
 use Rattle.calls.specs.declared.state.Machine.{Machine as MachineT}
 use Rattle.entries.specs.Entries.{entry}
 use Rattle.manifests.specs.Manifests.{held_of, lines as lines_in}
+use Rattle.std.specs.Prelude.{Option}
 use Rattle.manifests.specs.declared.Held.{Held}
 use Rattle.pens.specs.Pen.{Penned, stop_in, budget_in, preparing, made, matching, pen_named, pen_of, pens_of, after_pens}
 use Rattle.pens.specs.Code.{report_as}
@@ -55,7 +56,7 @@ module _ (s : Stretch) where
     pub apt : AptCalls s by
     pub leads : playing s n by p ≡ q
 
-  module _ (h : Held) (name setup : List ℕ) (w : W) where
+  module _ (h : Option Held) (name setup : List ℕ) (w : W) where
     -- the machine as the pen's run finds it
     abbrev ready : W
     ready = made (preparing setup name) w

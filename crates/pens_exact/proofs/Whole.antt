@@ -18,11 +18,11 @@ use Rattle.watching.proofs.Beside.{goes-runs}
 use Rattle.watched.specs.Answer.{Watched, or_else}
 use Rattle.crossing.specs.Crossing.{ending_number}
 use Rattle.utf8.specs.Latin.{judged_of}
-use Rattle.utf8.specs.declared.Judged.{Judged}
-use Rattle.utf8.specs.declared.Judged.TheVariants.{Fine, NotUtf8, NotLatin}
+use Rattle.std.specs.Prelude.{Option, Some, None, Result, Ok, Err}
+use Rattle.utf8.specs.declared.Unfit.{Unfit}
+use Rattle.utf8.specs.declared.Unfit.TheVariants.{NotUtf8, NotLatin}
 use Rattle.manifests.specs.Manifests.{held_of}
 use Rattle.manifests.specs.declared.Held.{Held}
-use Rattle.manifests.specs.declared.Held.TheVariants.{Today, LastGood, Neither}
 use Rattle.pens.specs.Pen.{address_in, stop_in, budget_in, given_in, all_registers, preparing, made, matching, judged_check, name_check, first_check, pen_check}
 use Rattle.pens.specs.Pen.{reported, unless_refused, pen_named, pen_of}
 use Rattle.exact.proofs.Counts.{check-small}
@@ -37,23 +37,22 @@ use Rattle.pens_exact.proofs.Accepted.{run-told, pen-go}
 abbrev InTable : ℕ → Type 0
 InTable n = n ≤ 83
 
-judged-small : (j : Judged) (at ram : ℕ) → InTable (judged_check j at ram)
+judged-small : (j : Result ℕ Unfit) (at ram : ℕ) → InTable (judged_check j at ram)
 unfolding judged_check
-judged-small NotUtf8 at ram = omega arith
-judged-small NotLatin at ram = omega arith
-judged-small (Fine n) at ram = picked InTable (leb (at + (n + 1)) ram) (omega arith) (omega arith)
+judged-small (Err NotUtf8) at ram = omega arith
+judged-small (Err NotLatin) at ram = omega arith
+judged-small (Ok n) at ram = picked InTable (leb (at + (n + 1)) ram) (omega arith) (omega arith)
 
-name-small : (h : Held) (j : Judged) (at ram : ℕ) → InTable (name_check h j at ram)
+name-small : (h : Option Held) (j : Result ℕ Unfit) (at ram : ℕ) → InTable (name_check h j at ram)
 unfolding name_check
-name-small (Today a e) j at ram = judged-small j at ram
-name-small (LastGood a e) j at ram = judged-small j at ram
-name-small Neither j at ram = omega arith
+name-small (Some h) j at ram = judged-small j at ram
+name-small None j at ram = omega arith
 
 first_small : (a b : ℕ) → InTable a → InTable b → InTable (or_else a b)
 first_small zero b f g = g
 first_small (suc a) b f g = f
 
-check-in-table : (h : Held) (j : Judged) (setup : List ℕ) (w : W) → InTable (pen_check h j setup w)
+check-in-table : (h : Option Held) (j : Result ℕ Unfit) (setup : List ℕ) (w : W) → InTable (pen_check h j setup w)
 check-in-table h j setup w =
     first_small (first_check setup w) (name_check h j (address_in setup) (length w.box.ram))
     (first_small (check_of w) (cond (all_registers (given_in setup)) 0 6) (omega (arith, check-small w))
@@ -75,7 +74,7 @@ run-passes setup w p =
     subst Passing ((goes-runs (stretch_of w) (budget_in setup) true (entry (stop_in setup) 1 0 ∷ []) w).world ∙ ap (λ (a : Watched). a.world) (sym (run-told setup w p)))
     (runs_on (stretch_of w) s.steps w p)
 
-named-whole : (h : Held) (name setup : List ℕ) (w : W) → Typed w.box.cpu w.box.ram → Within 16 setup → PenWhole (pen_named h name setup w)
+named-whole : (h : Option Held) (name setup : List ℕ) (w : W) → Typed w.box.cpu w.box.ram → Within 16 setup → PenWhole (pen_named h name setup w)
 unfolding pen_named
 named-whole h name setup w y f = go (pen_check h (judged_of name) setup w) refl
   where
