@@ -40,8 +40,7 @@ fn done(rt: &impl Print, order: Order, s: &mut Stops, lent: &mut Lent) {
     let d = made(rt, order, s, lent);
     let mut marks = copies::room();
     let steps = deeds::steps_told(order, d.outcome);
-    let journal = &*lent.journal;
-    dropped::mark(&mut marks, steps, lent.view(), journal);
+    dropped::mark(&mut marks, steps, lent);
     let before = View {
         state: &state,
         ram: &ram,

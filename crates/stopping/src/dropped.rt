@@ -1,4 +1,5 @@
 // The stores that were dropped, since their bytes are protected. A record tells of them as of others.
+use crate::lent::Lent;
 use crate::newest;
 use entries::Met;
 use panel::parts;
@@ -35,10 +36,11 @@ fn mark_stored(marks: &mut [u8], view: View, x: Met) {
 }
 
 // A mark at each byte at which the last steps, so many, had a store dropped. Their records are the newest, as far as they are held.
-pub fn mark(marks: &mut [u8], steps: u64, view: View, journal: &[u16]) {
+pub fn mark(marks: &mut [u8], steps: u64, lent: &Lent) {
+    let view = lent.view();
     let mut slot = view.state[25];
     for _ in 0..steps.min(u64::from(view.held())) {
-        slot = newest::before(slot, journal.len());
-        mark_stored(marks, view, newest::stored(slot, journal));
+        slot = newest::before(slot, lent.journal.len());
+        mark_stored(marks, view, newest::stored(slot, &*lent.journal));
     }
 }
