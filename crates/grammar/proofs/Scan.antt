@@ -3,18 +3,18 @@ use mathlib.Core.Path.{◌≡◌, refl, sym, ap, ◌∙◌}
 use mathlib.Core.Bool.{Bool, true, false, cond, not}
 use mathlib.Core.List.{List, [], ◌∷◌}
 use mathlib.Core.Logic.{⊎_elim}
-use Prim.Native.Nat.{ℕ, ◌+◌, ◌-◌, ◌<◌, ◌≤◌}
+use Prim.Native.Nat.{ℕ, zero, suc, ◌+◌, ◌-◌, ◌<◌, ◌≤◌}
 use native.Mathlib.Omega.{arith}
 use borrow.Author.Tests.{ne_eqb, eqb-true, lt-ltb}
-use lib.ListN.{length, take, drop, drop_of_length-le, length-drop}
+use lib.ListN.{length, get_or, take, drop, drop_of_length-le, length-drop}
 use lib.Seq.{drop-cons, drop-drop}
 use Rattle.std.specs.Prelude.{Option, Some, None, unwrap_or, position, nat_eq, ◌&&◌}
 use Rattle.std.specs.List.{position_or_len, starts_with}
 use Rattle.std.proofs.Common.{ltb}
 use Rattle.std.proofs.lemmas.List.{take_all}
 use Rattle.std.proofs.lemmas.Bool.{cases_lt}
-use Rattle.grammar.specs.Line.{run, rest, empty, blank, wordy, words, no_line, at_mnemonic, at_first, at_comma, at_second, line_of}
-use Rattle.grammar.specs.Code.{part, IsRead}
+use Rattle.grammar.specs.Line.{run, rest, empty, blank, wordy, Line, words, no_line, at_mnemonic, at_first, at_comma, at_second, line_of}
+use Rattle.grammar.specs.Code.{part}
 use Rattle.names.proofs.Keyed.{left}
 use Rattle.grammar.proofs.Bools.{clash}
 use Rattle.grammar.specs.declared.line.Part.{Part}
@@ -53,6 +53,13 @@ tail l i = take_all (length l - i) (drop i l) (omega (arith, length-drop i l))
 pub run_inside : (f : ℕ → Bool) (l : List ℕ) (i : ℕ) → i ≤ length l → i + length (run f (drop i l)) ≤ length l
 run_inside f l i h = omega (arith, run_within f (drop i l), length-drop i l)
 
+module _ (f : ℕ → Bool) (l : List ℕ) (i : ℕ) where
+  pub run_none : {b : ℕ} → i < length l → b ≡ get_or l i b → f b ≡ false → run f (drop i l) ≡ []
+  run_none {b} h q e = rw (drop-cons l i b h, ← q, e)
+
+  pub run_end : length l ≤ i → run f (drop i l) ≡ []
+  run_end h = rw (drop_of_length-le l h)
+
 -- ---- from places to parts
 
 take-run : (f : ℕ → Bool) (s : List ℕ) → take (length (run f s)) s ≡ run f s
@@ -80,7 +87,7 @@ module _ (f : ℕ → Bool) (l : List ℕ) (i j : ℕ) (e : j ≡ i + length (ru
   pub drop_past : drop j l ≡ rest f (drop i l)
   drop_past = rw (e, ← drop-drop (length (run f (drop i l))) i l) (drop-run f (drop i l))
 
-pub none_of : (w : List ℕ) → length w ≡ 0 → w ≡ []
+none_of : (w : List ℕ) → length w ≡ 0 → w ≡ []
 none_of [] e = refl
 none_of (b ∷ w) e = absurd (omega arith)
 
@@ -88,16 +95,21 @@ some_of : (w : List ℕ) → (length w ≡ 0 → ⊥) → empty w ≡ false
 some_of [] h = absurd (h refl)
 some_of (b ∷ w) h = refl
 
--- ---- a word that has been read, and the blanks after it: what each stage makes of them
+-- ---- the line, from the word of a number on
 
-pub no_mnemonic : (s : List ℕ) → run wordy s ≡ [] → at_mnemonic s ≡ no_line
-no_mnemonic s e = rw e
+abbrev pub stage : ℕ → List ℕ → List ℕ → List ℕ → Line
+stage zero m d s = at_mnemonic s
+stage (suc zero) m d s = at_first m s
+stage (suc (suc k)) m d s = at_second m d s
 
-pub no_first : (m s : List ℕ) → run wordy s ≡ [] → at_first m s ≡ no_line
-no_first m s e = rw e
+cond_same : (b : Bool) (x : Line) → cond b x x ≡ x
+cond_same true x = refl
+cond_same false x = refl
 
-pub no_second : (m d s : List ℕ) → run wordy s ≡ [] → at_second m d s ≡ no_line
-no_second m d s e = rw e
+pub stage-end : (k : ℕ) (m d s : List ℕ) → k < 2 → rest wordy s ≡ [] → stage k m d s ≡ no_line
+stage-end zero m d s h e = rw e (cond_same (empty (run wordy s)) no_line)
+stage-end (suc zero) m d s h e = rw e (cond_same (empty (run wordy s)) no_line)
+stage-end (suc (suc k)) m d s h e = absurd (omega arith)
 
 pub line_at : (l : List ℕ) (at : ℕ) → at ≡ 0 + length (run blank (drop 0 l)) → at_mnemonic (drop at l) ≡ line_of l
 unfolding line_of
@@ -116,37 +128,44 @@ no_comma : (m d s : List ℕ) → starts_with nat_eq s (44 ∷ []) ≡ false →
 no_comma m d [] e = refl
 no_comma m d (b ∷ t) e = rw (ne_eqb b 44 (λ (h : b ≡ 44). clash (sym (rw h at e))))
 
-module _ (l : List ℕ) (at : ℕ) (p : Part) (next : ℕ) (e : IsRead l at p next) where
-  some : empty (run wordy (drop at l)) ≡ false
-  some = some_of (run wordy (drop at l)) (λ z. omega (arith, e.some, e.word, z))
+-- ---- a word that has ended, and the blanks after it: what each stage makes of them
 
-  past : drop p.to l ≡ rest wordy (drop at l)
-  past = drop_past wordy l at p.to e.word
+pub record Ended (l : List ℕ) (p : Part) (next : ℕ) : Type 0 where
+  pub some : p.from < p.to
+  pub word : p.to ≡ p.from + length (run wordy (drop p.from l))
+  pub blanks : next ≡ p.to + length (run blank (drop p.to l))
+
+module _ (l : List ℕ) (p : Part) (next : ℕ) (e : Ended l p next) where
+  some : empty (run wordy (drop p.from l)) ≡ false
+  some = some_of (run wordy (drop p.from l)) (λ z. omega (arith, e.some, e.word, z))
+
+  past : drop p.to l ≡ rest wordy (drop p.from l)
+  past = drop_past wordy l p.from p.to e.word
 
   gone : drop next l ≡ rest blank (drop p.to l)
   gone = drop_past blank l p.to next e.blanks
 
-  name : part l p ≡ run wordy (drop at l)
-  name = rw e.begins (part-run wordy l at p.to e.word)
+  name : part l p ≡ run wordy (drop p.from l)
+  name = part-run wordy l p.from p.to e.word
 
-  pub mnemonic-ends : next ≡ p.to → at_mnemonic (drop at l) ≡ no_line
+  pub mnemonic-ends : next ≡ p.to → at_mnemonic (drop p.from l) ≡ no_line
   mnemonic-ends h = rw (some, ← past, none_of (run blank (drop p.to l)) (omega (arith, e.blanks)))
 
-  pub mnemonic-gap : (next ≡ p.to → ⊥) → at_mnemonic (drop at l) ≡ at_first (part l p) (drop next l)
+  pub mnemonic-gap : (next ≡ p.to → ⊥) → at_mnemonic (drop p.from l) ≡ at_first (part l p) (drop next l)
   mnemonic-gap h = rw (some, ← past, some_of (run blank (drop p.to l)) (λ z. h (omega (arith, e.blanks, z))), gone, name)
 
-  pub first-other : (m : List ℕ) → starts_with nat_eq (drop next l) (44 ∷ []) ≡ false → at_first m (drop at l) ≡ no_line
-  first-other m n = rw (some, ← past, ← gone) (no_comma m (run wordy (drop at l)) (drop next l) n)
+  pub first-other : (m : List ℕ) → starts_with nat_eq (drop next l) (44 ∷ []) ≡ false → at_first m (drop p.from l) ≡ no_line
+  first-other m n = rw (some, ← past, ← gone) (no_comma m (run wordy (drop p.from l)) (drop next l) n)
 
   pub first-comma : (m : List ℕ) (t : ℕ) → starts_with nat_eq (drop next l) (44 ∷ []) ≡ true → t ≡ next + 1 + length (run blank (drop (next + 1) l))
-      → at_first m (drop at l) ≡ at_second m (part l p) (drop t l)
+      → at_first m (drop p.from l) ≡ at_second m (part l p) (drop t l)
   first-comma m t k b =
       let c = comma_here (drop next l) k in
       let d : drop (next + 1) l ≡ drop 1 (drop next l) = sym (drop-drop 1 next l) in
       rw (some, ← past, ← gone, c, ← d, drop_past blank l (next + 1) t b, name)
 
-  pub second_more : (m d : List ℕ) → next < length l → at_second m d (drop at l) ≡ no_line
+  pub second_more : (m d : List ℕ) → next < length l → at_second m d (drop p.from l) ≡ no_line
   second_more m d h = rw (some, ← past, ← gone, drop-cons l next 0 h)
 
-  pub second-done : (m d : List ℕ) → length l ≤ next → at_second m d (drop at l) ≡ words m d (part l p)
+  pub second-done : (m d : List ℕ) → length l ≤ next → at_second m d (drop p.from l) ≡ words m d (part l p)
   second-done m d h = rw (some, ← past, ← gone, drop_of_length-le l h, name)

@@ -1,6 +1,6 @@
 -- How the code tells the words of a line: by places.
-use Rattle.std.specs.Prelude.{◌≡◌, ℕ, ◌+◌, ◌-◌, ◌<◌, ◌≤◌, List, [], take, drop, length, Option, Some, None}
-use Rattle.grammar.specs.Line.{Line, words, no_line, run, wordy, blank}
+use Rattle.std.specs.Prelude.{ℕ, ◌-◌, ◌≤◌, List, take, drop, Option, Some, None}
+use Rattle.grammar.specs.Line.{Line, words, no_line}
 use Rattle.grammar.specs.declared.line.Part.{Part}
 use Rattle.grammar.specs.declared.line.Words.{Words}
 
@@ -18,15 +18,3 @@ within None n = Unit {0}
 abbrev pub split_as : List ℕ → Option Words → Line
 split_as s (Some w) = words (part s w.mnemonic) (part s w.first) (part s w.second)
 split_as s None = no_line
-
--- a word that stands at a place, and the blanks after it
-pub record IsRead (s : List ℕ) (at : ℕ) (p : Part) (next : ℕ) : Type 0 where
-  pub begins : p.from ≡ at
-  pub some : at < p.to
-  pub word : p.to ≡ at + length (run wordy (drop at s))
-  pub blanks : next ≡ p.to + length (run blank (drop p.to s))
-  pub inside : next ≤ length s
-
-abbrev pub ReadAs : List ℕ → ℕ → Option (Part × ℕ) → Type 0
-ReadAs s at (Some r) = IsRead s at r.0 r.1
-ReadAs s at None = run wordy (drop at s) ≡ []

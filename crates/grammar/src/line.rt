@@ -1,7 +1,7 @@
 // The words of a line.
 ghost use Rattle.std.specs.Prelude.{◌≡◌, ◌+◌, ◌≤◌, length, drop};
-ghost use Rattle.grammar.specs.Line.{blank, wordy, run, line_of};
-ghost use Rattle.grammar.specs.Code.{part, part_within, split_as, within, ReadAs};
+ghost use Rattle.grammar.specs.Line.{blank, run, line_of};
+ghost use Rattle.grammar.specs.Code.{part, part_within, split_as, within};
 
 // The bytes of a line from one place up to another.
 #[derive(Clone, Copy)]
@@ -37,16 +37,6 @@ fn count_blanks(text: &[u8]) -> usize
         .unwrap_or(text.len())
 }
 
-// How many letters, digits and underscores a text begins with. One function with the test as a parameter would be no plainer than these two: its clause
-// would have to say what the test computes, of any test.
-fn count_wordy(text: &[u8]) -> usize
-    ensures { result ≡ length (run wordy text.now) }
-{
-    text.iter()
-        .position(|&b| !letters::is_wordy(b))
-        .unwrap_or(text.len())
-}
-
 // Past the blanks that stand at `at`.
 fn skip_blanks(line: &[u8], at: usize) -> usize
     requires { at ≤ length line.now }
@@ -55,38 +45,46 @@ fn skip_blanks(line: &[u8], at: usize) -> usize
     at + count_blanks(&line[at..])
 }
 
-// The word that stands at `from`, and the place past the blanks after it.
-fn read_word(line: &[u8], from: usize) -> Option<(Part, usize)>
-    requires { from ≤ length line.now }
-    ensures { ReadAs line.now from result }
-{
-    let to = from + count_wordy(&line[from..]);
-    if to == from {
-        return None;
-    }
-    Some((Part { from, to }, skip_blanks(line, to)))
-}
-
-// The words of a line. Only the last may end it; any byte that the grammar does not ask for ends the match.
+// The words of a line. Only the last may end it; any byte that the grammar does not ask for ends the match. Nested loops that are left by label: the
+// form that docs/DECISIONS.md ("Forms that the rules name") lists. The outer goes over words, `word` of them so far, the inner over a word's bytes.
 pub fn match_line(line: &[u8]) -> Option<Words>
     ensures result_value { split_as line.now result ≡ line_of line.now }
     ensures within { within result (length line.now) }
 {
-    let (mnemonic, at) = read_word(line, skip_blanks(line, 0))?;
-    if at == mnemonic.to {
-        return None;
+    let mut mnemonic = Part { from: 0, to: 0 };
+    let mut first = mnemonic;
+    let mut word: usize = 0;
+    let mut from = skip_blanks(line, 0);
+    'line: loop {
+        let mut to = from;
+        'word: loop {
+            match line.get(to) {
+                Some(&b) if letters::is_wordy(b) => to += 1,
+                None if word < 2 => break 'line None,
+                _ => break,
+            }
+        }
+        let next = skip_blanks(line, to);
+        match word {
+            _ if to == from => break None,
+            0 if to < next => {
+                mnemonic = Part { from, to };
+                from = next;
+            }
+            1 if line[next..].starts_with(b",") => {
+                first = Part { from, to };
+                from = skip_blanks(line, next + 1);
+            }
+            2 if next == line.len() => {
+                let second = Part { from, to };
+                break Some(Words {
+                    mnemonic,
+                    first,
+                    second,
+                });
+            }
+            _ => break None,
+        }
+        word += 1;
     }
-    let (first, comma) = read_word(line, at)?;
-    if !line[comma..].starts_with(b",") {
-        return None;
-    }
-    let (second, end) = read_word(line, skip_blanks(line, comma + 1))?;
-    if end < line.len() {
-        return None;
-    }
-    Some(Words {
-        mnemonic,
-        first,
-        second,
-    })
 }
