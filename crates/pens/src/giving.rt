@@ -24,17 +24,23 @@ pub fn make(call: Call, m: Machine, ram: &mut [u8], journal: &mut [u16]) -> Mach
     after
 }
 
+// The words that give registers.
+fn given(setup: &[u16]) -> &[u16]
+    ensures { result.now ≡ drop 3 setup.now }
+{
+    setup.get(3..).unwrap_or(&[])
+}
+
 // Whether all given registers are among the sixteen. A last word without its pair is not read.
 pub fn are_registers(setup: &[u16]) -> bool
     ensures { result ≡ all_registers (drop 3 setup.now) }
 {
-    let last = setup.len().saturating_sub(1);
-    let mut i = 3;
-    while i < last {
-        if 15 < setup[i] {
+    let mut rest = given(setup);
+    while let [number, _, tail @ ..] = rest {
+        if 15 < *number {
             return false;
         }
-        i += 2;
+        rest = tail;
     }
     true
 }
@@ -50,12 +56,11 @@ pub fn give(m: Machine, ram: &mut [u8], journal: &mut [u16], setup: &[u16]) -> M
     requires { all_registers (drop 3 setup.now) ≡ true }
     ensures { world_of result ram.new journal.new ≡ made (settings (drop 3 setup.now)) (world_of m ram.old journal.old) }
 {
-    let last = setup.len().saturating_sub(1);
     let mut after = m;
-    let mut i = 3;
-    while i < last {
-        after = make(numbered(setup[i], setup[i + 1]), after, ram, journal);
-        i += 2;
+    let mut rest = given(setup);
+    while let [number, content, tail @ ..] = rest {
+        after = make(numbered(*number, *content), after, ram, journal);
+        rest = tail;
     }
     after
 }

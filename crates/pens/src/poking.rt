@@ -43,16 +43,13 @@ pub fn poke_name(
     ensures { world_of result ram.new journal.new
         ≡ made (pokings at (latin_of name.now ++ (0 ∷ []))) (world_of m ram.old journal.old) }
 {
+    let end = at + n as u16;
     let mut after = m;
-    let mut a = at;
     let mut i = 0;
-    let mut left = n;
-    while 0 < left {
+    for a in at..end {
         let s = single_at(name, i);
         after = giving::make(Call::Poke(a, s.byte), after, ram, journal);
-        a = a + 1;
         i = s.next;
-        left = left - 1;
     }
-    giving::make(Call::Poke(a, 0), after, ram, journal)
+    giving::make(Call::Poke(end, 0), after, ram, journal)
 }

@@ -1,11 +1,10 @@
 use mathlib.Core.Path.{◌≡◌}
-use Prim.Native.Nat.{◌-◌}
-use lib.ListN.{drop}
+use lib.ListN.{length, drop}
 use Rattle.pens.specs.Pen.{all_registers}
 use Rattle.pens.proofs.giving.are_registers.Given as goal
 
-abbrev pub invariant-loop-i : goal.invariant-loop-i
-invariant-loop-i l = all_registers (drop l.i l.setup) ≡ all_registers (drop 3 l.setup)
+abbrev pub invariant-loop-rest : goal.invariant-loop-rest
+invariant-loop-rest l = all_registers l.rest ≡ all_registers (drop 3 l.setup)
 
-abbrev pub decreases-loop-i : goal.decreases-loop-i
-decreases-loop-i l = l.last - l.i
+abbrev pub decreases-loop-rest : goal.decreases-loop-rest
+decreases-loop-rest l = length l.rest
