@@ -18,6 +18,8 @@ use Rattle.watched.specs.Answer.{Watched as Answer, watched_of}
 use Rattle.watched.specs.Code.{answer_as, Watches}
 use Rattle.watched.specs.declared.Watched.{Watched}
 use Rattle.crossing.specs.Crossing.{ending_number, crossed_with, leaves_list, CrossesWatched}
+-- passed on to callers that gather a list
+pub use Rattle.watched.proofs.Bared.{of_points}
 
 pub small : (e : Ending) → ending_number e ≤ 3
 small Refused = omega arith

@@ -9,7 +9,7 @@ ghost use Rattle.entries.specs.Code.{points_of};
 ghost use Rattle.calls.specs.Calls.{world_of};
 ghost use Rattle.boundary.specs.Boundary.{taken, packed};
 ghost use Rattle.watched.specs.Answer.{watched_of};
-ghost use Rattle.watched.specs.Code.{answer_as};
+ghost use Rattle.watched.specs.Code.{bared, answer_as};
 ghost use Rattle.crossing.specs.Crossing.{ending_number, crossed_with, leaves_list, CrossesWatched};
 
 use boundary::{fields, words};
@@ -84,9 +84,9 @@ pub fn cross_points(
     p: Points,
     budget: u16,
 ) -> Crossing
-    ensures crosses_watched { (l : List Entry) → p ≡ points_of l → CrossesWatched budget state.old ram.old journal.old l
+    ensures crosses_watched { (l : List Entry) → bared p ≡ points_of l → CrossesWatched budget state.old ram.old journal.old l
         result.result state.new ram.new journal.new (marked result.met l) }
-    ensures met_value { (l : List Entry) → p ≡ points_of l
+    ensures met_value { (l : List Entry) → bared p ≡ points_of l
         → result.met ≡ (watched_of budget l (world_of (taken state.old) ram.old journal.old)).met }
 {
     let m = words::taken(*state);

@@ -104,6 +104,7 @@ pub extern "C" fn mb50_run(
 }
 
 // The list's entries are three words each, as C has them.
+#[tactic(auto, using(crossing::proofs::Results::of_points))]
 #[unsafe(no_mangle)]
 pub extern "C" fn mb50_run_watched(
     state: &mut [u16; 32],

@@ -1,12 +1,13 @@
 -- From the points of a list, the checks and the run to what the call answers.
 use Prim.Native.Nat.{ℕ, zero, suc, ◌≤◌, ◌<◌}
-use mathlib.Core.Path.{◌≡◌, refl, sym, ◌∙◌, ap}
+use mathlib.Core.Path.{◌≡◌, refl, sym, ◌∙◌, ap, subst}
 use mathlib.Core.Bool.{Bool, true, false, cond}
 use mathlib.Core.List.{List, map}
 use native.Mathlib.Omega.{arith}
 use borrow.Author.Tests.{leb-true, leb-false, le-leb, lt-leb}
 use lib.Dec.{leb}
 use lib.ListN.{length, take}
+use Rattle.std.specs.List.{take-map}
 use Rattle.bus.specs.declared.state.Cpu.{Cpu}
 use Rattle.history.specs.Trace.{Effect, Next, refuses, gives}
 use Rattle.calls.specs.Inputs.{step, next_of}
@@ -22,7 +23,7 @@ use Rattle.watching.specs.Watched.{Stop, reached, stored, watched, placed, turn,
 use Rattle.watching.specs.Code.{Names, stop_of}
 use Rattle.watching.specs.declared.Told.{Told}
 use Rattle.watched.specs.Answer.{told, refused, list_check, or_else, unless_refused, watched_of}
-use Rattle.watched.specs.Code.{number_of, answered, refuse, stopped_as, answer_as}
+use Rattle.watched.specs.Code.{bared, number_of, answered, refuse, stopped_as, answer_as}
 use Rattle.watched.specs.declared.Refusal.{Refusal}
 use Rattle.watched.specs.declared.Stopped.{Stopped}
 
@@ -47,13 +48,20 @@ long l h = go (leb (length l) 64) refl
 pub check-long : (l : List Entry) → 64 < (points_of l).count → 40 ≡ list_check l
 check-long l h = rw (lt-leb (length l) 64 (long l h))
 
-pub check-kinds : (l : List Entry) (t : Bool) → (points_of l).count ≤ 64 → all_known (kinds (take (points_of l).count (points_of l).entries)) ≡ t
-    → cond t 0 41 ≡ list_check l
-check-kinds l t h e =
-    let n = short l h in
+-- without hits, the entries that are there are the list's
+listed : (p : Points) (l : List Entry) → bared p ≡ points_of l → length l ≤ 64 → map bare (take p.count p.entries) ≡ map bare l
+listed p l e n =
     let c = gathered l n in
+    sym (take-map bare p.count p.entries) ∙ ap (λ (x : Points). take x.count x.entries) e ∙ ap (λ (x : ℕ). take x (points_of l).entries) c.count
+    ∙ c.entries
+
+pub check-kinds : (p : Points) (l : List Entry) (t : Bool) → bared p ≡ points_of l → p.count ≤ 64 → all_known (kinds (take p.count p.entries)) ≡ t
+    → cond t 0 41 ≡ list_check l
+check-kinds p l t e h q =
+    let n = short l (subst (λ (x : Points). x.count ≤ 64) e h) in
+    let there = take p.count p.entries in
     let k : all_known (kinds l) ≡ t =
-    sym (ap all_known (ap (λ (x : ℕ). kinds (take x (points_of l).entries)) c.count ∙ ap kinds c.entries ∙ bare-kinds l)) ∙ e
+    ap all_known (sym (bare-kinds l) ∙ ap kinds (sym (listed p l e n)) ∙ bare-kinds there) ∙ q
     in
     rw (le-leb (length l) 64 n, k)
 
@@ -119,17 +127,17 @@ module _ (m : MachineT) (ram ws : List ℕ) (budget : ℕ) (l : List Entry) wher
   abbrev w : W
   w = world_of m ram ws
 
-  pub ran : (p : Points) (s : Stopped) (ram' ws' : List ℕ) → p ≡ points_of l → length l ≤ 64
+  pub ran : (p : Points) (s : Stopped) (ram' ws' : List ℕ) → bared p ≡ points_of l → length l ≤ 64
       → goes budget true (take p.count p.entries) w ≡ stopped_as s ram' ws'
       → Names s.told (take p.count p.entries)
       → told (goes budget true l w) l ≡ answer_as (answered 0 s.told s.machine) ram' ws' (marked s.told.met l)
   ran p s ram' ws' e n g t =
-      let c = gathered l n in
-      let f : take p.count p.entries ≡ map bare l =
-      ap (λ (x : Points). take x.count x.entries) e ∙ ap (λ (x : ℕ). take x (points_of l).entries) c.count ∙ c.entries
-      in
+      let there = take p.count p.entries in
+      let f = listed p l e n in
+      let k = meets s.told.met in
       told-as (goes budget true l w) s.told (world_of s.machine ram' ws') l
-      (sym (goes_same l budget true w) ∙ (rw f at g)) ((rw f at t) ∙ ap (placed s.told.ending) (bare-place s.told.met l))
+      (sym (goes_same l budget true w) ∙ ap (λ (x : List Entry). goes budget true x w) (sym f) ∙ goes_same there budget true w ∙ g)
+      (t ∙ ap (placed s.told.ending) (sym (bare-place s.told.met there) ∙ ap (place_of k) f ∙ bare-place s.told.met l))
 
   pub denies : (why : Refusal) → number_of why ≡ or_else (check_of w) (list_check l)
       → watched_of budget l w ≡ answer_as (refuse m (number_of why)) ram ws (marked (refuse m (number_of why)).told.met l)

@@ -1,8 +1,10 @@
 -- How the code's answer to a watched run stands for the rules' own.
-use Rattle.std.specs.Prelude.{ℕ, ◌≡◌, List, Result, Ok, Err}
+use Rattle.std.specs.Prelude.{ℕ, ◌≡◌, List, Result, Ok, Err, map}
 use Rattle.calls.specs.Calls.{number_of as number_of_check, world_of}
 use Rattle.calls.specs.declared.state.Machine.{Machine as MachineT}
+use Rattle.entries.specs.Code.{bare, points}
 use Rattle.entries.specs.declared.Entry.{Entry}
+use Rattle.entries.specs.declared.Points.{Points}
 use Rattle.watching.specs.Watched.{Stop, nothing}
 use Rattle.watching.specs.Code.{tells_of, stop_of}
 use Rattle.watching.specs.declared.Ending.TheVariants as Ending
@@ -11,6 +13,10 @@ use Rattle.watched.specs.Answer.{Watched, watched_of}
 use Rattle.watched.specs.declared.Refusal.{Refusal}
 use Rattle.watched.specs.declared.Stopped.{Stopped}
 use Rattle.watched.specs.declared.Watched.{Watched as WatchedT}
+
+-- a list by value without the hits of its entries: a list's hits steer no run
+abbrev pub bared : Points → Points
+bared p = points p.count (map bare p.entries)
 
 -- the paper's number for each refusal
 abbrev pub number_of : Refusal → ℕ

@@ -8,7 +8,7 @@ ghost use Rattle.watched.specs.declared.Refusal.TheVariants.{Check};
 ghost use Rattle.entries.specs.Entries.{marked};
 ghost use Rattle.entries.specs.Code.{points_of};
 ghost use Rattle.watched.specs.Answer.{list_check, or_else, told as told_of};
-ghost use Rattle.watched.specs.Code.{number_of, checked, answered as answered_by, refuse, stopped_as, answer_as, Watches};
+ghost use Rattle.watched.specs.Code.{bared, number_of, checked, answered as answered_by, refuse, stopped_as, answer_as, Watches};
 ghost use Rattle.watching.specs.Code.{Names};
 ghost use Rattle.watching.specs.Watched.{goes};
 
@@ -48,7 +48,7 @@ impl From<Refusal> for u8 {
     }
 }
 
-// The refusal's number (0: accepted), what the run tells, and the machine; a refused run tells nothing of its own, so that `mark` and the C boundary ask one value.
+// The refusal's number (0: accepted), what the run tells, and the machine.
 #[derive(Clone, Copy)]
 pub struct Watched {
     pub number: u8,
@@ -64,7 +64,7 @@ struct Stopped {
 
 // The list's own refusals.
 fn list_check(p: Points) -> Result<(), Refusal>
-    ensures { (l : List Entry) → p ≡ points_of l → checked result ≡ list_check l }
+    ensures { (l : List Entry) → bared p ≡ points_of l → checked result ≡ list_check l }
 {
     let n = p.count;
     let entries = p.entries;
@@ -79,7 +79,7 @@ fn list_check(p: Points) -> Result<(), Refusal>
 
 // What every call checks, then the list.
 fn check(m: Machine, ram: &[u8], journal: &[u16], p: Points) -> Result<(), Refusal>
-    ensures { (l : List Entry) → p ≡ points_of l
+    ensures { (l : List Entry) → bared p ≡ points_of l
         → checked result ≡ or_else (check_of (world_of m ram.now journal.now)) (list_check l) }
 {
     checks::check(m, ram, journal)?;
@@ -147,7 +147,7 @@ fn run_list(m: Machine, ram: &mut [u8], journal: &mut [u16], list: &[Entry], bud
 
 // The run of a machine and a list that have passed the checks; a longer list has not.
 fn accepted(m: Machine, ram: &mut [u8], journal: &mut [u16], p: Points, budget: u16) -> Watched
-    ensures { (l : List Entry) → p ≡ points_of l → length l ≤ 64
+    ensures { (l : List Entry) → bared p ≡ points_of l → length l ≤ 64
         → told_of (goes budget true l (world_of m ram.old journal.old)) l
         ≡ answer_as result ram.new journal.new (marked result.told.met l) }
 {
@@ -162,7 +162,7 @@ fn accepted(m: Machine, ram: &mut [u8], journal: &mut [u16], p: Points, budget: 
     answered(0, told, after)
 }
 
-// A watched run by a list by value: whatever the list's hits are, those of the entries that the answer's `met` tells of rise by one.
+// A watched run by a list by value, whose own hits it does not read: whatever the list's hits are, those of the entries that the answer's `met` tells of rise by one.
 pub fn run_points(
     m: Machine,
     ram: &mut [u8],
@@ -170,7 +170,7 @@ pub fn run_points(
     p: Points,
     budget: u16,
 ) -> Watched
-    ensures { (l : List Entry) → p ≡ points_of l
+    ensures { (l : List Entry) → bared p ≡ points_of l
         → Watches budget m ram.old journal.old l result ram.new journal.new (marked result.told.met l) }
 {
     match check(m, ram, journal, p) {
@@ -180,6 +180,7 @@ pub fn run_points(
 }
 
 // The same on a lent list, whose hits are marked in it.
+#[tactic(auto, using(crate::proofs::Bared::of_points))]
 pub fn run_watched(
     m: Machine,
     ram: &mut [u8],

@@ -1,4 +1,4 @@
-use Prim.Native.Nat.{◌-◌, ◌<◌, ◌≤◌}
+use Prim.Native.Nat.{◌-◌, ◌<◌}
 use mathlib.Core.Path.{◌≡◌, sym, subst, ◌∙◌}
 use native.Mathlib.Omega.{arith}
 use Rattle.entries.specs.declared.Points.{Points}
@@ -12,10 +12,10 @@ pub returns-then-known : goal.returns-then-known
 returns-then-known c l e = let n = c.args.p.count in
     let z : n - 0 ≡ n = omega arith in
     let k = sym (rw z at c.known.ensures) ∙ c.if-known.true in
-    check-kinds l _ (subst (λ (p : Points). p.count ≤ 64) e c.if-n-gt64.false) (rw e at k)
+    check-kinds c.args.p l _ e c.if-n-gt64.false k
 
 pub returns : goal.returns
 returns c l e = let n = c.args.p.count in
     let z : n - 0 ≡ n = omega arith in
     let k = sym (rw z at c.known.ensures) ∙ c.if-known.false in
-    check-kinds l _ (subst (λ (p : Points). p.count ≤ 64) e c.if-n-gt64.false) (rw e at k)
+    check-kinds c.args.p l _ e c.if-n-gt64.false k
