@@ -3,6 +3,12 @@ use Rattle.std.specs.Prelude.{ℕ, Bool, true, cond, ◌&&◌, List, [], ◌∷�
 use Rattle.entries.specs.declared.Entry.{Entry}
 use Rattle.stops.specs.declared.list.Stops.{Stops}
 use Rattle.stops.specs.declared.list.Gone.{Gone}
+use Rattle.stops.specs.declared.list.Kind.{Kind}
+
+-- a kind's number at the machine
+abbrev pub kind_number : Kind → ℕ
+kind_number Kind.Break = 1
+kind_number Kind.Watch = 2
 
 -- the list that is kept
 abbrev pub list_of : Stops → List Entry

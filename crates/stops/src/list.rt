@@ -1,7 +1,7 @@
 // The list: its entries one after the other, without an address of one kind twice.
 ghost use Rattle.std.specs.Prelude.{◌+◌, ◌<◌, ◌≤◌, ◌≡◌, cond, [], ◌∷◌, ◌++◌};
 ghost use Rattle.entries.specs.Entries.{met_at, meets, marked};
-ghost use Rattle.stops.specs.Stops.{list_of, gone as gone_by, kept, first_of};
+ghost use Rattle.stops.specs.Stops.{list_of, kind_number, gone as gone_by, kept, first_of};
 
 use entries::{Entry, Met};
 
@@ -13,7 +13,9 @@ pub enum Kind {
 }
 
 impl From<Kind> for u16 {
-    fn from(kind: Kind) -> u16 {
+    fn from(kind: Kind) -> u16
+        ensures { result ≡ kind_number kind }
+    {
         kind as u16
     }
 }
