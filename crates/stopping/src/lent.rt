@@ -1,4 +1,7 @@
 // What each call of the machine is lent, and the calls.
+ghost use Rattle.machine.specs.Asked.{asked};
+ghost use Rattle.boundary.specs.Boundary.{Crosses};
+
 use crossing::Crossing;
 use entries::Points;
 use machine::Call;
@@ -33,7 +36,10 @@ impl Lent<'_, '_, '_> {
     }
 
     // A call's result, as the boundary gives it.
-    pub fn cross(&mut self, call: Call) -> u64 {
+    pub fn cross(&mut self, call: Call) -> u64
+        ensures { Crosses (asked call) self.old.state.now self.old.ram.now self.old.journal.now
+            result self.new.state.now self.new.ram.now self.new.journal.now }
+    {
         mb50::cross(call, &mut *self.state, &mut *self.ram, &mut *self.journal)
     }
 
