@@ -22,12 +22,12 @@ pub fn is_blank(b: u8) -> bool
     matches!(b, b'\t' | b' ')
 }
 
-// Small letters first, since most bytes of words are.
+// Small letters first and by a test of their own, since most bytes of words are: of one row of ranges the compiler asks the others first.
 #[tactic(auto, unfolding(crate::specs::Letters::wordy))]
 pub fn is_wordy(b: u8) -> bool
     ensures { result ≡ wordy b }
 {
-    matches!(b, b'a'..=b'z' | b'A'..=b'Z' | b'0'..=b'9' | b'_')
+    matches!(b, b'a'..=b'z') || matches!(b, b'A'..=b'Z' | b'0'..=b'9' | b'_')
 }
 
 // The value of a hexadecimal digit of either case; None where it is none.
