@@ -1,6 +1,7 @@
 // list: memory as instructions.
 use crate::status;
 use crate::view::View;
+use console::rows::Row;
 use console::values;
 use console::values::Said;
 use word::sums;
@@ -8,15 +9,17 @@ use word::sums;
 // The lines that list shows where the command names no number.
 const LINES: u16 = 8;
 
-// An address, the bytes there, and the instruction that they are.
+// An address, the bytes there, and the instruction that they are. What stands before the instruction is written at once.
 pub fn show(rt: &impl Print, view: View, at: u16) {
     let w = view.word_at(at);
-    report::hex(rt, at as u64, 4);
+    let mut room = [b' '; 11];
+    let mut row = Row::new(&mut room);
+    row.put_hex(at, 4);
     for byte in w.to_le_bytes() {
-        report::space(rt);
-        report::hex(rt, byte as u64, 2);
+        row.put(b' ');
+        row.put_hex(u16::from(byte), 2);
     }
-    report::space(rt);
+    report::text(rt, &room);
     status::instruction(rt, w);
 }
 
