@@ -81,7 +81,15 @@ pub fn ended_run(h: u64, number: u8, told: Told, m: Machine) -> u64 {
 // All 64 entries, lent or not: their addresses, then their kinds, then their hits.
 pub fn listed(h: u64, l: &Points) -> u64 {
     let count = report::absorb(h, (l.count % 65536) as u16);
-    let addresses = report::absorb_words(count, &l.entries.map(|e| e.address));
-    let kinds = report::absorb_words(addresses, &l.entries.map(|e| e.kind));
-    report::absorb_words(kinds, &l.entries.map(|e| e.hits))
+    let addresses = l
+        .entries
+        .iter()
+        .fold(count, |h, e| report::absorb(h, e.address));
+    let kinds = l
+        .entries
+        .iter()
+        .fold(addresses, |h, e| report::absorb(h, e.kind));
+    l.entries
+        .iter()
+        .fold(kinds, |h, e| report::absorb(h, e.hits))
 }

@@ -1,8 +1,10 @@
 // The words of a section: lines of four hexadecimal digits in front of it.
-ghost use Rattle.std.specs.Prelude.{◌≤◌, length};
+ghost use Rattle.std.specs.Prelude.{◌≤◌, length, IfSome};
 
 // Small letters only.
-fn digit(b: u8) -> Option<u16> {
+fn digit(b: u8) -> Option<u16>
+    ensures { IfSome result (λ d. d ≤ 15) }
+{
     match b {
         b'0'..=b'9' => Some(b as u16 - 48),
         b'a'..=b'f' => Some(b as u16 - 87),
