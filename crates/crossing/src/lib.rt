@@ -14,7 +14,7 @@ ghost use Rattle.crossing.specs.Crossing.{ending_number, crossed_with, leaves_li
 
 use boundary::{fields, words};
 use calls::state::{Answer, Machine, Reply};
-use entries::{Met, Points};
+use entries::{Entry, Met, Points};
 use watched::Watched;
 use watching::{Ending, Told};
 
@@ -76,7 +76,29 @@ fn answer(state: &mut [u16; 32], r: Watched) -> u64
     result
 }
 
-// Words to machine, the run, machine to words.
+// Words to machine, the run, machine to words; the list stays as it is.
+pub fn cross_list(
+    state: &mut [u16; 32],
+    ram: &mut [u8],
+    journal: &mut [u16],
+    list: &[Entry],
+    budget: u16,
+) -> Crossing
+    ensures crosses_watched { CrossesWatched budget state.old ram.old journal.old list.now
+        result.result state.new ram.new journal.new (marked result.met list.now) }
+    ensures met_value { result.met ≡ (watched_of budget list.now (world_of (taken state.old) ram.old journal.old)).met }
+{
+    let m = words::taken(*state);
+    let r = watched::run_unmarked(m, ram, journal, list, budget);
+    let told = r.told;
+    let met = told.met;
+    Crossing {
+        result: answer(state, r),
+        met,
+    }
+}
+
+// The same by a list by value.
 pub fn cross_points(
     state: &mut [u16; 32],
     ram: &mut [u8],

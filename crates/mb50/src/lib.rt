@@ -104,7 +104,6 @@ pub extern "C" fn mb50_run(
 }
 
 // The list's entries are three words each, as C has them.
-#[tactic(auto, using(crossing::proofs::Results::of_points))]
 #[unsafe(no_mangle)]
 pub extern "C" fn mb50_run_watched(
     state: &mut [u16; 32],
@@ -116,8 +115,7 @@ pub extern "C" fn mb50_run_watched(
     ensures { CrossesWatched budget state.old ram.old journal.old list.old
         result state.new ram.new journal.new list.new }
 {
-    let p = entries::gather(list);
-    let c = crossing::cross_points(state, ram, journal, p, budget);
+    let c = crossing::cross_list(state, ram, journal, list, budget);
     entries::mark(list, c.met);
     c.result
 }

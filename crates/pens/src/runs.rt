@@ -22,8 +22,7 @@ fn matched(m: Machine, ram: &mut [u8], journal: &mut [u16], stop: u16, budget: u
         kind: 1,
         hits: 0,
     };
-    let p = entries::add(entries::none(), one);
-    watched::run_points(m, ram, journal, p, budget)
+    watched::run_unmarked(m, ram, journal, &[one], budget)
 }
 
 // What a run tells of a pen.

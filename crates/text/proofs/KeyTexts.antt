@@ -4,10 +4,12 @@ use mathlib.Core.Bool.{Bool, true, false, cond, ◌&&◌}
 use mathlib.Core.List.{List, [], ◌∷◌, ◌++◌, append_assoc}
 use mathlib.Core.Logic.{⊎_elim}
 use Prim.Native.Nat.{ℕ, zero, suc, ◌+◌, ◌*◌, ◌-◌, ◌/◌, ◌%◌, ◌^◌, ◌<◌, ◌≤◌}
+use native.Mathlib.Numerals.{add-one}
 use native.Mathlib.Omega.{arith}
 use borrow.Author.Tests.{eq-eqb, ne_eqb, leb-true, le-leb}
 use lib.Dec.{eqb, leb}
-use lib.ListN.{length, take}
+use lib.ListN.{length, set, take}
+use lib.Seq.{sets}
 use Rattle.std.specs.Int.{bytes_low_first, leading_zeros, to_le_bytes}
 use Rattle.std.proofs.Common.{w64}
 use Rattle.std.proofs.Math.Pow.{pow_mono}
@@ -29,6 +31,21 @@ use Rattle.grammar.proofs.Bools.{either}
 pub digits-end : (k x : ℕ) → x ≡ 0 → digits k x ≡ []
 digits-end zero x e = refl
 digits-end (suc k) x e = rw (eq-eqb x 0 e)
+
+pub digits_more : (k x : ℕ) → (k ≡ 0 → ⊥) → (x ≡ 0 → ⊥) → digits k x ≡ (x % 256) ∷ digits (k - 1) (x / 256)
+digits_more zero x nk nx = absurd (nk refl)
+digits_more (suc k) x nk nx =
+    let e : suc k - 1 ≡ k = omega arith in
+    rw (ne_eqb x 0 nx, e)
+
+-- where a byte is left, neither the bytes nor the number are at their end
+pub digits-left : (k x : ℕ) → 0 < length (digits k x) → (k ≡ 0 → ⊥) × (x ≡ 0 → ⊥)
+digits-left zero x h = absurd (omega (arith, h))
+digits-left (suc k) x h = ((λ e. omega (arith, e)), (λ e. let n = ap length (digits-end (suc k) x e) in omega (arith, n, h)))
+
+pub put_step : (out : List ℕ) (i k x : ℕ) → (k ≡ 0 → ⊥) → (x ≡ 0 → ⊥)
+    → sets (set out i (x % 256)) (i + 1) (digits (k - 1) (x / 256)) ≡ sets out i (digits k x)
+put_step out i k x nk nx = rw (digits_more k x nk nx, add-one)
 
 go-length : (b : Bool) (y : ℕ) (ys : List ℕ) (k : ℕ) → length ys ≤ k → length (cond b [] (y ∷ ys)) ≤ suc k
 go-length true y ys k h = omega arith

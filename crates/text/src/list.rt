@@ -52,15 +52,19 @@ fn width(key: u64) -> usize
     8 - key.leading_zeros() as usize / 8
 }
 
-// The bytes of a key, first byte lowest, stored from `at` on; the place after them.
+// The bytes of a key, first byte lowest, stored from `at` on; the place after them. One by one: a copy of so few bytes, of a length that is not known before,
+// would be a call of the C library, of which the C boundary needs nothing.
 fn put(out: &mut [u8], at: usize, key: u64) -> usize
     requires { at + length (key_text key) ≤ length out.old }
     ensures { (result ≡ at + length (key_text key)) × (out.new ≡ sets out.old at (key_text key)) }
 {
-    let n = width(key);
-    let bytes = key.to_le_bytes();
-    out[at..at + n].copy_from_slice(&bytes[..n]);
-    at + n
+    let end = at + width(key);
+    let mut rest = key;
+    for i in at..end {
+        out[i] = (rest % 256) as u8;
+        rest = rest / 256;
+    }
+    end
 }
 
 // No text is longer than 16 bytes, so that with room for these nothing is counted.

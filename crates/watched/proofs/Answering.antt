@@ -6,7 +6,7 @@ use mathlib.Core.List.{List, map}
 use native.Mathlib.Omega.{arith}
 use borrow.Author.Tests.{leb-true, leb-false, le-leb, lt-leb}
 use lib.Dec.{leb}
-use lib.ListN.{length, take}
+use lib.ListN.{length, take, length-map}
 use Rattle.std.specs.List.{take-map}
 use Rattle.bus.specs.declared.state.Cpu.{Cpu}
 use Rattle.history.specs.Trace.{Effect, Next, refuses, gives}
@@ -22,10 +22,11 @@ use Rattle.entries.proofs.Listed.{bare-some, bare-place, bare-kinds, never-marke
 use Rattle.watching.specs.Watched.{Stop, reached, stored, watched, placed, turn, goes}
 use Rattle.watching.specs.Code.{Names, stop_of}
 use Rattle.watching.specs.declared.Told.{Told}
-use Rattle.watched.specs.Answer.{told, refused, list_check, or_else, unless_refused, watched_of}
-use Rattle.watched.specs.Code.{bared, number_of, answered, refuse, stopped_as, answer_as}
+use Rattle.watched.specs.Answer.{Watched, told, refused, list_check, or_else, unless_refused, watched_of}
+use Rattle.watched.specs.Code.{bared, number_of, answered, refuse, stopped_as, answer_as, Watches}
 use Rattle.watched.specs.declared.Refusal.{Refusal}
 use Rattle.watched.specs.declared.Stopped.{Stopped}
+use Rattle.watched.specs.declared.Watched.{Watched as WatchedT}
 
 abbrev kinds : List Entry → List ℕ
 kinds l = map (λ (e : Entry). e.kind) l
@@ -45,8 +46,11 @@ long l h = go (leb (length l) 64) refl
     go true e = let n = leb-true (length l) 64 e in let c = (gathered l n).count in absurd (omega (arith, c, h, n))
     go false e = leb-false (length l) 64 e
 
-pub check-long : (l : List Entry) → 64 < (points_of l).count → 40 ≡ list_check l
-check-long l h = rw (lt-leb (length l) 64 (long l h))
+pub check-long : (l : List Entry) → 64 < length l → 40 ≡ list_check l
+check-long l h = rw (lt-leb (length l) 64 h)
+
+pub check-kinds : (l : List Entry) (t : Bool) → length l ≤ 64 → all_known (kinds l) ≡ t → cond t 0 41 ≡ list_check l
+check-kinds l t n k = rw (le-leb (length l) 64 n, k)
 
 -- without hits, the entries that are there are the list's
 listed : (p : Points) (l : List Entry) → bared p ≡ points_of l → length l ≤ 64 → map bare (take p.count p.entries) ≡ map bare l
@@ -55,15 +59,13 @@ listed p l e n =
     sym (take-map bare p.count p.entries) ∙ ap (λ (x : Points). take x.count x.entries) e ∙ ap (λ (x : ℕ). take x (points_of l).entries) c.count
     ∙ c.entries
 
-pub check-kinds : (p : Points) (l : List Entry) (t : Bool) → bared p ≡ points_of l → p.count ≤ 64 → all_known (kinds (take p.count p.entries)) ≡ t
-    → cond t 0 41 ≡ list_check l
-check-kinds p l t e h q =
-    let n = short l (subst (λ (x : Points). x.count ≤ 64) e h) in
-    let there = take p.count p.entries in
-    let k : all_known (kinds l) ≡ t =
-    ap all_known (sym (bare-kinds l) ∙ ap kinds (sym (listed p l e n)) ∙ bare-kinds there) ∙ q
-    in
-    rw (le-leb (length l) 64 n, k)
+-- two lists that are the same without hits are refused alike
+check-same : (k l : List Entry) → map bare k ≡ map bare l → list_check l ≡ list_check k
+check-same k l e =
+    let n : length l ≡ length k = sym (length-map l bare) ∙ ap length (sym e) ∙ length-map k bare in
+    let ks : kinds l ≡ kinds k = sym (bare-kinds l) ∙ ap kinds (sym e) ∙ bare-kinds k in
+    ap (λ (x : ℕ). cond (leb x 64) (cond (all_known (kinds l)) 0 41) 40) n
+    ∙ ap (λ (x : List ℕ). cond (leb (length k) 64) (cond (all_known x) 0 41) 40) ks
 
 -- a list that passes is not too long
 pub passed : (a : ℕ) (l : List Entry) → or_else a (list_check l) ≡ 0 → length l ≤ 64
@@ -127,17 +129,9 @@ module _ (m : MachineT) (ram ws : List ℕ) (budget : ℕ) (l : List Entry) wher
   abbrev w : W
   w = world_of m ram ws
 
-  pub ran : (p : Points) (s : Stopped) (ram' ws' : List ℕ) → bared p ≡ points_of l → length l ≤ 64
-      → goes budget true (take p.count p.entries) w ≡ stopped_as s ram' ws'
-      → Names s.told (take p.count p.entries)
+  pub ran : (s : Stopped) (ram' ws' : List ℕ) → goes budget true l w ≡ stopped_as s ram' ws' → Names s.told l
       → told (goes budget true l w) l ≡ answer_as (answered 0 s.told s.machine) ram' ws' (marked s.told.met l)
-  ran p s ram' ws' e n g t =
-      let there = take p.count p.entries in
-      let f = listed p l e n in
-      let k = meets s.told.met in
-      told-as (goes budget true l w) s.told (world_of s.machine ram' ws') l
-      (sym (goes_same l budget true w) ∙ ap (λ (x : List Entry). goes budget true x w) (sym f) ∙ goes_same there budget true w ∙ g)
-      (t ∙ ap (placed s.told.ending) (sym (bare-place s.told.met there) ∙ ap (place_of k) f ∙ bare-place s.told.met l))
+  ran s ram' ws' g t = told-as (goes budget true l w) s.told (world_of s.machine ram' ws') l g t
 
   pub denies : (why : Refusal) → number_of why ≡ or_else (check_of w) (list_check l)
       → watched_of budget l w ≡ answer_as (refuse m (number_of why)) ram ws (marked (refuse m (number_of why)).told.met l)
@@ -153,3 +147,32 @@ module _ (m : MachineT) (ram ws : List ℕ) (budget : ℕ) (l : List Entry) wher
   pub accepts : or_else (check_of w) (list_check l) ≡ 0 → watched_of budget l w ≡ told (goes budget true l w) l
   unfolding watched_of
   accepts e = ap (λ (x : ℕ). unless_refused x w l (told (goes budget true l w) l)) e
+
+-- an answer for another list: all but the list is the same
+abbrev relisted : Watched → List Entry → Watched
+relisted a l =
+    record { number = a.number; steps = a.steps; bus = a.bus; ending = a.ending; met = a.met; place = a.place; world = a.world; list = marked a.met l }
+
+module _ (budget : ℕ) (w : W) (k l : List Entry) (e : map bare k ≡ map bare l) where
+  told-same : told (goes budget true l w) l ≡ relisted (told (goes budget true k w) k) l
+  told-same =
+      let s = goes budget true k w in
+      let g : goes budget true l w ≡ s = sym (goes_same l budget true w) ∙ ap (λ (x : List Entry). goes budget true x w) (sym e) ∙ goes_same k budget true w in
+      let p : place_of (meets s.met) l ≡ place_of (meets s.met) k = sym (bare-place s.met l) ∙ ap (place_of (meets s.met)) (sym e) ∙ bare-place s.met k in
+      ap (λ (x : Stop). told x l) g ∙ rw p
+
+  same-answer : watched_of budget l w ≡ relisted (watched_of budget k w) l
+  unfolding watched_of
+  same-answer = ap (λ (x : ℕ). unless_refused (or_else (check_of w) x) w l (told (goes budget true l w) l)) (check-same k l e) ∙ go (or_else (check_of w) (list_check k))
+    where
+      go : (n : ℕ) → unless_refused n w l (told (goes budget true l w) l) ≡ relisted (unless_refused n w k (told (goes budget true k w) k)) l
+      go zero = told-same
+      go (suc n) = ap (refused (suc n) w) (sym (never-marked 0 0 l))
+
+-- a run by the entries of a list by value is one by the list that it stands for
+pub stands-for : (p : Points) (l : List Entry) (budget : ℕ) (m : MachineT) (ram ws : List ℕ) (r : WatchedT) (ram' ws' : List ℕ) → bared p ≡ points_of l → p.count ≤ 64
+    → Watches budget m ram ws (take p.count p.entries) r ram' ws' (marked r.told.met (take p.count p.entries))
+    → Watches budget m ram ws l r ram' ws' (marked r.told.met l)
+stands-for p l budget m ram ws r ram' ws' e n h =
+    let s = short l (subst (λ (x : Points). x.count ≤ 64) e n) in
+    same-answer budget (world_of m ram ws) (take p.count p.entries) l (listed p l e s) ∙ ap (λ (a : Watched). relisted a l) h

@@ -1,7 +1,7 @@
 // The watched run as a call of the machine: its checks, the run, and the hits marked in the list.
 #![tactic(auto)]
 
-ghost use Rattle.std.specs.Prelude.{◌≤◌, ◌≡◌, List, length, true};
+ghost use Rattle.std.specs.Prelude.{◌≡◌, List, true};
 ghost use Rattle.calls.specs.Calls.{check_of, world_of};
 ghost use Rattle.entries.specs.declared.Entry.{Entry};
 ghost use Rattle.watched.specs.declared.Refusal.TheVariants.{Check};
@@ -63,27 +63,34 @@ struct Stopped {
 }
 
 // The list's own refusals.
-fn list_check(p: Points) -> Result<(), Refusal>
-    ensures { (l : List Entry) → bared p ≡ points_of l → checked result ≡ list_check l }
+fn list_check(list: &[Entry]) -> Result<(), Refusal>
+    ensures { checked result ≡ list_check list.now }
 {
-    let n = p.count;
-    let entries = p.entries;
-    if 64 < n {
+    if 64 < list.len() {
         return Err(Refusal::TooMany);
     }
-    if entries::known(&entries[0..n]) {
+    if entries::known(list) {
         return Ok(());
     }
     Err(Refusal::UnknownKind)
 }
 
 // What every call checks, then the list.
-fn check(m: Machine, ram: &[u8], journal: &[u16], p: Points) -> Result<(), Refusal>
-    ensures { (l : List Entry) → bared p ≡ points_of l
-        → checked result ≡ or_else (check_of (world_of m ram.now journal.now)) (list_check l) }
+fn check(m: Machine, ram: &[u8], journal: &[u16], list: &[Entry]) -> Result<(), Refusal>
+    ensures { checked result ≡ or_else (check_of (world_of m ram.now journal.now)) (list_check list.now) }
 {
     checks::check(m, ram, journal)?;
-    list_check(p)
+    list_check(list)
+}
+
+// What refuses a list by value that is too long: what every call checks, else its length.
+fn overfull(m: Machine, ram: &[u8], journal: &[u16]) -> Refusal
+    ensures { number_of result ≡ or_else (check_of (world_of m ram.now journal.now)) 40 }
+{
+    match checks::check(m, ram, journal) {
+        Err(why) => Refusal::from(why),
+        Ok(()) => Refusal::TooMany,
+    }
 }
 
 fn answered(number: u8, told: Told, machine: Machine) -> Watched
@@ -145,24 +152,36 @@ fn run_list(m: Machine, ram: &mut [u8], journal: &mut [u16], list: &[Entry], bud
     }
 }
 
-// The run of a machine and a list that have passed the checks; a longer list has not.
-fn accepted(m: Machine, ram: &mut [u8], journal: &mut [u16], p: Points, budget: u16) -> Watched
-    ensures { (l : List Entry) → bared p ≡ points_of l → length l ≤ 64
-        → told_of (goes budget true l (world_of m ram.old journal.old)) l
-        ≡ answer_as result ram.new journal.new (marked result.told.met l) }
+// The run of a machine and a list that have passed the checks.
+fn accepted(m: Machine, ram: &mut [u8], journal: &mut [u16], list: &[Entry], budget: u16) -> Watched
+    ensures { told_of (goes budget true list.now (world_of m ram.old journal.old)) list.now
+        ≡ answer_as result ram.new journal.new (marked result.told.met list.now) }
 {
-    let n = p.count;
-    let entries = p.entries;
-    if 64 < n {
-        return refused(m, 40);
-    }
-    let s = run_list(m, ram, journal, &entries[0..n], budget);
+    let s = run_list(m, ram, journal, list, budget);
     let told = s.told;
     let after = s.machine;
     answered(0, told, after)
 }
 
-// A watched run by a list by value, whose own hits it does not read: whatever the list's hits are, those of the entries that the answer's `met` tells of rise by one.
+// A watched run by a list that stays as it is: the hits of the entries that the answer's `met` tells of rise by one, for whoever keeps them. Nothing is
+// copied of the list, so that the C boundary needs no function of the C library.
+pub fn run_unmarked(
+    m: Machine,
+    ram: &mut [u8],
+    journal: &mut [u16],
+    list: &[Entry],
+    budget: u16,
+) -> Watched
+    ensures { Watches budget m ram.old journal.old list.now
+        result ram.new journal.new (marked result.told.met list.now) }
+{
+    match check(m, ram, journal, list) {
+        Err(why) => refused(m, u8::from(why)),
+        Ok(()) => accepted(m, ram, journal, list, budget),
+    }
+}
+
+// The same by a list by value, whose own hits it does not read: whatever the list's hits are, those of the entries that the answer's `met` tells of rise by one.
 pub fn run_points(
     m: Machine,
     ram: &mut [u8],
@@ -173,14 +192,15 @@ pub fn run_points(
     ensures { (l : List Entry) → bared p ≡ points_of l
         → Watches budget m ram.old journal.old l result ram.new journal.new (marked result.told.met l) }
 {
-    match check(m, ram, journal, p) {
-        Err(why) => refused(m, u8::from(why)),
-        Ok(()) => accepted(m, ram, journal, p, budget),
+    let n = p.count;
+    let entries = p.entries;
+    if 64 < n {
+        return refused(m, u8::from(overfull(m, ram, journal)));
     }
+    run_unmarked(m, ram, journal, &entries[0..n], budget)
 }
 
 // The same on a lent list, whose hits are marked in it.
-#[tactic(auto, using(crate::proofs::Bared::of_points))]
 pub fn run_watched(
     m: Machine,
     ram: &mut [u8],
@@ -191,8 +211,7 @@ pub fn run_watched(
     ensures { Watches budget m ram.old journal.old list.old
         result ram.new journal.new list.new }
 {
-    let p = entries::gather(list);
-    let r = run_points(m, ram, journal, p, budget);
+    let r = run_unmarked(m, ram, journal, list, budget);
     entries::mark(list, r.told.met);
     r
 }

@@ -1,21 +1,12 @@
-use Prim.Native.Nat.{◌-◌, ◌<◌}
-use mathlib.Core.Path.{◌≡◌, sym, subst, ◌∙◌}
-use native.Mathlib.Omega.{arith}
-use Rattle.entries.specs.declared.Points.{Points}
+use mathlib.Core.Path.{sym, ◌∙◌}
 use Rattle.watched.proofs.Answering.{check-long, check-kinds}
 use Rattle.watched.proofs.list_check.Goals as goal
 
-pub returns-then-n-gt64 : goal.returns-then-n-gt64
-returns-then-n-gt64 c l e = check-long l (subst (λ (p : Points). 64 < p.count) e c.if-n-gt64.true)
+pub returns-then-list-gt64 : goal.returns-then-list-gt64
+returns-then-list-gt64 c = check-long c.args.list.now c.if-list-gt64.true
 
 pub returns-then-known : goal.returns-then-known
-returns-then-known c l e = let n = c.args.p.count in
-    let z : n - 0 ≡ n = omega arith in
-    let k = sym (rw z at c.known.ensures) ∙ c.if-known.true in
-    check-kinds c.args.p l _ e c.if-n-gt64.false k
+returns-then-known c = check-kinds c.args.list.now _ c.if-list-gt64.false (sym c.known.ensures ∙ c.if-known.true)
 
 pub returns : goal.returns
-returns c l e = let n = c.args.p.count in
-    let z : n - 0 ≡ n = omega arith in
-    let k = sym (rw z at c.known.ensures) ∙ c.if-known.false in
-    check-kinds c.args.p l _ e c.if-n-gt64.false k
+returns c = check-kinds c.args.list.now _ c.if-list-gt64.false (sym c.known.ensures ∙ c.if-known.false)

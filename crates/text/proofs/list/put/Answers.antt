@@ -1,31 +1,38 @@
-use Rattle.std.proofs.Common.{◌≡◌, ℕ, sym, ap, ◌∙◌, ◌-◌, ◌+◌, length, take, arith, append_assoc}
-use lib.ListN.{length-take, length-drop}
-use lib.Seq.{sets-eq, drop-drop}
-use Rattle.text.specs.Code.{key_text}
-use Rattle.text.proofs.KeyTexts.{key-short, key-bytes}
+use mathlib.Core.Path.{◌≡◌, refl, sym, ap, ◌∙◌}
+use mathlib.Core.List.{List, [], ◌∷◌}
+use Prim.Native.Nat.{ℕ, ◌+◌, ◌-◌, ◌<◌}
+use native.Mathlib.Omega.{arith}
+use lib.ListN.{length, length-set}
+use lib.Seq.{sets}
+use Rattle.text.specs.Code.{digits, key_text}
+use Rattle.text.proofs.KeyTexts.{digits_more, digits-left, put_step}
 use Rattle.text.proofs.list.put.Goals as goal
-use Rattle.text.proofs.list.put.Goals.{After-to_le_bytes-bytes}
 
--- what is copied
-front : (c : After-to_le_bytes-bytes) → take c.width-n.result c.to_le_bytes-bytes.result ≡ key_text c.args.key
-front c = rw (c.to_le_bytes-bytes.ensures, c.width-n.ensures) (key-bytes c.args.key)
+pub loop-i-init : goal.loop-i-init
+unfolding key_text
+loop-i-init c =
+    let e : 8 + c.args.at - c.args.at ≡ 8 = omega arith in
+    (rw e refl, rw e refl, refl)
 
-pub slice_bounds-bytes-end : goal.slice_bounds-bytes-end
-slice_bounds-bytes-end c = omega (arith, key-short c.args.key, c.width-n.ensures, ap length c.to_le_bytes-bytes.ensures)
+pub loop-i-preserved : goal.loop-i-preserved
+loop-i-preserved c = let v = c.loop-i in
+    let k = 8 + c.args.at - v.i in
+    let e : 8 + c.args.at - (v.i + 1) ≡ k - 1 = omega arith in
+    let some : 0 < length (digits k v.rest) = omega (arith, v.invariant.1, c.loop-i-test.true, c.width.ensures) in
+    let left = digits-left k v.rest some in
+    let m = ap length (digits_more k v.rest left.0 left.1) in
+    let s = put_step v.out v.i k v.rest left.0 left.1 in (
+      rw e (s ∙ v.invariant.0),
+      rw e (omega (arith, m, v.invariant.1)),
+      simp length-set v.invariant.2,
+    )
 
-pub slice_bounds-copy_from_slice-end-2 : goal.slice_bounds-copy_from_slice-end-2
-slice_bounds-copy_from_slice-end-2 c = c.width-n.ensures ∙ sym (ap length (front (goal.at.slice_bounds-copy_from_slice-end-2 c).After-to_le_bytes-bytes))
-
-pub copy_from_slice-requires : goal.copy_from_slice-requires
-copy_from_slice-requires c =
-    let f = ap length (front (goal.at.copy_from_slice-requires c).After-to_le_bytes-bytes) in
-    omega (arith, f, c.width-n.ensures, c.requires, length-take {A = ℕ}, length-drop {A = ℕ})
+none-left : (l : List ℕ) → length l ≡ 0 → l ≡ []
+none-left [] e = refl
+none-left (x ∷ l) e = absurd (omega (arith, e))
 
 pub returns : goal.returns
-returns c =
-    let t = key_text c.args.key in
-    let k : c.args.at + c.width-n.result - c.args.at ≡ length t = omega (arith, c.width-n.ensures) in
-    let f = front (goal.at.returns c).After-to_le_bytes-bytes in (
-      omega (arith, c.width-n.ensures),
-      rw (c.copy_from_slice.ensures.after, f, k, drop-drop (length t) c.args.at c.args.out.now, sets-eq t c.args.out.now c.args.at c.requires, append_assoc),
-    )
+returns c = let v = c.loop-i in
+    let d = digits (8 + c.args.at - v.i) v.rest in
+    let n : d ≡ [] = none-left d (omega (arith, v.invariant.1, c.loop-i-test.false, c.width.ensures)) in
+    (omega (arith, c.width.ensures), ap (sets v.out v.i) (sym n) ∙ v.invariant.0)
