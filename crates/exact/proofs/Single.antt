@@ -4,6 +4,7 @@ use Prim.Native.Nat.{ℕ, zero, suc}
 use mathlib.Core.Path.{◌≡◌, refl, ◌∙◌, sym, ap}
 use mathlib.Core.Bool.{cond}
 use mathlib.Core.List.{List}
+use Rattle.std.specs.Prelude.{Result, Ok, Err}
 use lib.Dec.{eqb}
 use Rattle.bus.specs.Addresses.{Bus, bus}
 use Rattle.bus.specs.declared.state.Cpu.{Cpu}
@@ -23,7 +24,7 @@ use Rattle.records.specs.Code.{undo_as}
 use Rattle.records.specs.declared.Before.{Before}
 use Rattle.calls.specs.Inputs.{Input}
 use Rattle.calls.specs.Calls.{W, world_of, said_by, replied, Keeps}
-use Rattle.calls.specs.Code.{Acts}
+use Rattle.calls.specs.Code.{Acts, checked}
 use Rattle.calls.specs.declared.state.Machine.{Machine as MachineT}
 use Rattle.calls.specs.declared.state.Refusal.{Refusal}
 use Rattle.calls.specs.declared.state.Answer.{Answer as AnswerT}
@@ -41,7 +42,7 @@ use Rattle.recording.specs.Code.{Turn, turn_as}
 use Rattle.recording.specs.declared.Recorded.{Recorded}
 
 -- an answer, read back from the paper's number and values
-abbrev refusal_from : ℕ → Refusal
+abbrev pub refusal_from : ℕ → Refusal
 refusal_from n =
     cond (eqb n 1) Refusal.RamTooLong
     (cond (eqb n 2) Refusal.BadJournal
@@ -85,6 +86,27 @@ world-back Accepted w = refl
 world-back (Stepped b) w = refl
 world-back (Ran r) w = refl
 world-back (Refused why) w = refl
+
+-- what every call checks first, read back from the number that is promised
+abbrev check_from : ℕ → Result (Unit {0}) Refusal
+check_from zero = Ok tt
+check_from (suc n) = Err (refusal_from (suc n))
+
+check-back : (r : Result (Unit {0}) Refusal) → check_from (checked r) ≡ r
+check-back (Ok t) = refl
+check-back (Err Refusal.RamTooLong) = refl
+check-back (Err Refusal.BadJournal) = refl
+check-back (Err Refusal.BadState) = refl
+check-back (Err Refusal.Halted) = refl
+check-back (Err Refusal.NotReady) = refl
+check-back (Err Refusal.NoRegister) = refl
+check-back (Err Refusal.NotRam) = refl
+check-back (Err Refusal.NoRecord) = refl
+check-back (Err Refusal.BadRecord) = refl
+
+-- for the checks (`checks::check`): two answers of the number that is promised are the same
+pub single-check : (n : ℕ) (r r' : Result (Unit {0}) Refusal) → checked r ≡ n → checked r' ≡ n → r ≡ r'
+single-check n r r' p q = sym (check-back r) ∙ ap check_from (p ∙ sym q) ∙ check-back r'
 
 abbrev reply : AnswerT → MachineT → Reply
 reply a m = record { answer = a; machine = m }
